@@ -24,7 +24,7 @@ use Rattle.augmentation.specs.Push.{AreSmall, IsExcess, AreSupplies, positive_pa
 use Rattle.augmentation.specs.Cut.{sum_in, sum_leaving, sum_entering, lack, IsChosenSet}
 use Rattle.tracked.specs.Marks.{in_set}
 use Rattle.augmentation.specs.Nodes.{held}
-use Rattle.flow_solver.specs.Answer.{IsBestMoment, IsInfeasibleMoment, IsVerdict, IsChosenBreach, IsChosenCut, IsJudged, worth_by, IsAnswered}
+use Rattle.flow_solver.specs.Answer.{IsBestMoment, IsInfeasibleMoment, IsVerdict, IsChosenBreach, IsChosenCut, IsJudged, reduced_worth, IsAnswered}
 use Rattle.flow_solver.specs.Balance.{IsWrappedExcess}
 use Rattle.flow_solver.specs.TablesView.{IsFlowValue}
 use Rattle.flow_solver.specs.Moment.{Moment, IsReturnVerdict, ReturnMatches, ReturnMatchesBy, VerdictFits, returned, with_return}
@@ -55,12 +55,12 @@ certified_at I x p lawful certified = certified_same (reduced I) x (at_node (dro
 
 -- ---- the worth
 
-worth_is : (n : ℕ) (D : Demand) (arcs : List ArcRow) (room : ℕ) (y : List ℤ) → y ≡ reduced_flow (made n D arcs room) (numbered_flow D y) → worth_by D (reduced_arcs D arcs) y ≡ worth (made n D arcs room) (numbered_flow D y)
+worth_is : (n : ℕ) (D : Demand) (arcs : List ArcRow) (room : ℕ) (y : List ℤ) → y ≡ reduced_flow (made n D arcs room) (numbered_flow D y) → reduced_worth D (reduced_arcs D arcs) y ≡ worth (made n D arcs room) (numbered_flow D y)
 worth_is n (Terminals source sink) arcs room y same = ap (λ (z : List ℤ). number_at z 0) same
 worth_is n _ arcs room y same = refl
 
 -- without a return arc it is the cost
-pub worth_is_cost : (D : Demand) (arcs : List ArcRow) (y : List ℤ) → return_arc_of D ≡ None → worth_by D arcs y ≡ total_cost arcs y
+pub worth_is_cost : (D : Demand) (arcs : List ArcRow) (y : List ℤ) → return_arc_of D ≡ None → reduced_worth D arcs y ≡ total_cost arcs y
 worth_is_cost (Terminals source sink) arcs y none = cc
 worth_is_cost _ arcs y none = refl
 
@@ -115,7 +115,7 @@ module _ (I : Instance) (y p e : List ℤ) (set : List Bool) (end : IsEnd I y p 
   deficit_verdict : left e ≡ 0 → 0 < lack e → IsInfeasibleMoment I (is_marked (drop 1 set)) (pos (lack e))
   deficit_verdict none some = infeasible (pos (lack e)) (record { positive = omega (arith, ints, some); value = inr (sym (cut_of_deficit none some).value) })
 
-  best_verdict : left e ≡ 0 → lack e ≡ 0 → IsBestMoment I y (is_marked (drop 1 set)) (worth_by I.demand (reduced I).arcs y)
+  best_verdict : left e ≡ 0 → lack e ≡ 0 → IsBestMoment I y (is_marked (drop 1 set)) (reduced_worth I.demand (reduced I).arcs y)
   best_verdict none no_lack =
       let legal = from_reduced I y end.lawful (legal_flow (reduced I) y e end.excess_is bounds none no_lack) in
       let certified : IsCertified I (numbered_flow I.demand y) (at_node (drop 1 p)) = subst (λ (z : List ℤ). IsCertifiedFlow (reduced I) z (at_node (drop 1 p))) legal.1 end_certified in
@@ -145,8 +145,8 @@ module _ (I : Instance) (y p e : List ℤ) (set : List Bool) (end : IsEnd I y p 
     shortfall = λ all. cut_of_deficit none some;
   }
 
-  module _ (verdict : Verdict) (judged : IsJudged (worth_by I.demand (reduced I).arcs y) e verdict) where
-    by_sums : (P : Verdict → Type 0) → (0 < left e → P (Infeasible (pos (left e)))) → (left e ≡ 0 → 0 < lack e → P (Infeasible (pos (lack e)))) → (left e ≡ 0 → lack e ≡ 0 → P (Best (worth_by I.demand (reduced I).arcs y))) → P verdict
+  module _ (verdict : Verdict) (judged : IsJudged (reduced_worth I.demand (reduced I).arcs y) e verdict) where
+    by_sums : (P : Verdict → Type 0) → (0 < left e → P (Infeasible (pos (left e)))) → (left e ≡ 0 → 0 < lack e → P (Infeasible (pos (lack e)))) → (left e ≡ 0 → lack e ≡ 0 → P (Best (reduced_worth I.demand (reduced I).arcs y))) → P verdict
     by_sums P excess deficit neither = elim (cases_lt 0 (left e)) [
       | inl some ↦ subst P (sym (judged.in_excess some)) (excess some)
       | inr le ↦ (let none : left e ≡ 0 = omega arith in elim (cases_lt 0 (lack e)) [

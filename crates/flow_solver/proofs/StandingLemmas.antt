@@ -24,7 +24,7 @@ use Rattle.flow_solver.specs.Edit.{KeepsResidualArcs}
 use Rattle.flow_solver.specs.TablesView.{flow_index}
 use Rattle.flow_solver.specs.Potentials.{AreAsTold}
 use Rattle.flow_solver.specs.declared.potentials.Potentials.{Potentials}
-use Rattle.flow_solver.specs.Tables.{AreTables}
+use Rattle.flow_solver.specs.Tables.{AreConsistent}
 use Rattle.flow_solver.proofs.AnswerLemmas.{agrees_at}
 use Rattle.residual_graph.proofs.GraphLemmas.{with_row, with_last}
 use Rattle.flow_solver.proofs.ChangeLemmas.{supplied, row_is, rows_changed, rows_more, rows_kept}
@@ -176,6 +176,6 @@ module _ (I : Instance) (k : ℕ) (row : ArcRow) (at : (1 ≤ k) × (k ≤ lengt
 
 -- the tables stay tables where nothing is told of the potentials, or what is true of them
 pub tables_told : (g : Graph) (flow : TrackedView ℤ) (potentials : Potentials) (balance : Balance) (cut : TrackedView Bool) (scratch : ScratchView) (before : Before) (greatest : Bool) →
-    AreTables g flow potentials balance cut scratch before → AreAsTold g.net flow.entries (record potentials { greatest = greatest }) →
-    AreTables g flow (record potentials { greatest = greatest }) balance cut scratch before
+    AreConsistent g flow potentials balance cut scratch before → AreAsTold g.net flow.entries (record potentials { greatest = greatest }) →
+    AreConsistent g flow (record potentials { greatest = greatest }) balance cut scratch before
 tables_told g flow potentials balance cut scratch before greatest t told = record { fit = t.fit; balance_is = t.balance_is; told = told; held = t.held; step = t.step; log_fits = t.log_fits; before_is = t.before_is }

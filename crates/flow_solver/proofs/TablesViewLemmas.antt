@@ -9,7 +9,7 @@ use Rattle.flow_solver.specs.declared.part.Part.{Part}
 use Rattle.flow_solver.specs.declared.part.Part.TheVariants.{Supply}
 use Rattle.flow_solver.specs.declared.verdict.Verdict.{Verdict}
 use Rattle.tracked.specs.Touched.{NameChanges}
-use Rattle.flow_solver.specs.Moment.{IsSized, Snapshot, Moment, kept_of}
+use Rattle.flow_solver.specs.Moment.{IsWellFormed, Snapshot, Moment, kept_of}
 use Rattle.flow_solver.specs.Tables.{FitGraph, IsOfNodes}
 use Rattle.residual_graph.specs.Graph.{IsGraph}
 use Rattle.augmentation.specs.Nodes.{IsIdleEntry}
@@ -53,7 +53,7 @@ fit_written g h flow flow' p p' cut cut' scratch scratch' t nodes room_is graph 
 pub sized_written : (g h : Graph) (flow flow' : TrackedView ℤ) (p p' : TrackedView ℤ) (cut cut' : TrackedView Bool) (scratch : ScratchView) (verdict : Verdict) →
     FitGraph g flow p cut scratch → h.net.nodes ≡ g.net.nodes → AreRowsOf h.net h.rows → length h.rows ≡ length g.rows →
     IsWritten flow flow' → IsWritten p p' → IsWritten cut cut' →
-    IsSized (record { instance = h.net; flow = flow'.entries; potentials = drop 1 p'.entries; verdict = verdict; cut = drop 1 cut'.entries })
+    IsWellFormed (record { instance = h.net; flow = flow'.entries; potentials = drop 1 p'.entries; verdict = verdict; cut = drop 1 cut'.entries })
 sized_written g h flow flow' p p' cut cut' scratch verdict t nodes of many flow_written p_written cut_written = record {
   lawful = of.lawful;
   one_flow = flow_written.same_length ∙ t.flow_in ∙ sym many ∙ ap (λ (xs : List ArcRow). length xs) of.rows_are;

@@ -5,7 +5,7 @@ use Rattle.network.specs.Flow.{MinCost, total_cost, surplus_of, IsCertifiedFlow,
 use Rattle.network.specs.Instance.{Demand, Terminals, Instance, at_node, is_marked, numbered_flow, reduced, reduced_flow, worth, IsLegal, IsBest, IsBreach}
 use Rattle.flow_solver.specs.declared.verdict.Verdict.{Verdict}
 use Rattle.flow_solver.specs.declared.verdict.Verdict.TheVariants.{Best, Infeasible}
-use Rattle.flow_solver.specs.Moment.{IsSized, Moment}
+use Rattle.flow_solver.specs.Moment.{IsWellFormed, Moment}
 use Rattle.residual_graph.specs.Residual.{number_at}
 use Rattle.augmentation.specs.Push.{left}
 use Rattle.augmentation.specs.Cut.{lack}
@@ -41,16 +41,16 @@ IsChosenCut (Infeasible d) I set = IsChosenBreach I set d
 
 -- an answer to the instance, by the chosen certificates
 pub record IsAnswered (m : Moment) : Type 0 where
-  pub sized : IsSized m
+  pub sized : IsWellFormed m
   pub certified : IsCertifiedFlow (reduced m.instance) m.flow (at_node m.potentials)
   pub verdict : IsVerdict m.verdict m.instance m.flow (is_marked m.cut)
   pub greatest : AreGreatestPotentials (reduced m.instance) m.flow (at_node m.potentials)
   pub chosen : IsChosenCut m.verdict (reduced m.instance) (is_marked m.cut)
 
 -- the worth of a flow of the reduced instance: its cost, or what the return arc carries
-abbrev pub worth_by : Demand → List ArcRow → List ℤ → ℤ
-worth_by (Terminals source sink) arcs flow = number_at flow 0
-worth_by _ arcs flow = total_cost arcs flow
+abbrev pub reduced_worth : Demand → List ArcRow → List ℤ → ℤ
+reduced_worth (Terminals source sink) arcs flow = number_at flow 0
+reduced_worth _ arcs flow = total_cost arcs flow
 
 -- the verdict by what lies in excess and in deficit
 pub record IsJudged (worth : ℤ) (e : List ℤ) (verdict : Verdict) : Type 0 where

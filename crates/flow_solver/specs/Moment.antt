@@ -17,7 +17,7 @@ pub record Moment : Type 0 where
   pub cut : List Bool
 
 -- a lawful instance, with one flow for each arc of its reduction, and one potential and one mark for each node
-pub record IsSized (m : Moment) : Type 0 where
+pub record IsWellFormed (m : Moment) : Type 0 where
   pub lawful : IsLawful m.instance
   pub one_flow : length m.flow ≡ length (reduced m.instance).arcs
   pub one_potential : length m.potentials ≡ m.instance.nodes

@@ -39,7 +39,7 @@ pub record FitGraph (g : Graph) (flow : TrackedView ℤ) (potentials : TrackedVi
 
 -- the tables fit the graph, and there is room to log a group. What is told of the potentials is true, and labels that were
 -- tested are held under the flow that was kept; it is known where the potentials may be others than these
-pub record AreTables (g : Graph) (flow : TrackedView ℤ) (potentials : Potentials) (balance : Balance) (cut : TrackedView Bool) (scratch : ScratchView) (before : Before) : Type 0 where
+pub record AreConsistent (g : Graph) (flow : TrackedView ℤ) (potentials : Potentials) (balance : Balance) (cut : TrackedView Bool) (scratch : ScratchView) (before : Before) : Type 0 where
   pub fit : FitGraph g flow potentials.table cut scratch
   pub open fit use *
   pub balance_is : IsBalanceOf g.net g.rows flow balance

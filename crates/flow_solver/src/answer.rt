@@ -8,7 +8,7 @@ ghost use Rattle.augmentation.specs.Push.{AreSmall, left};
 ghost use Rattle.augmentation.specs.Cut.{lack};
 ghost use Rattle.augmentation.specs.Nodes.{held};
 ghost use Rattle.flow_solver.specs.Balance.{IsWrappedCost};
-ghost use Rattle.flow_solver.specs.Answer.{IsJudged, worth_by};
+ghost use Rattle.flow_solver.specs.Answer.{IsJudged, reduced_worth};
 
 use crate::balance::{Balance, cost_now};
 use crate::verdict::Verdict;
@@ -33,7 +33,7 @@ fn worth(net: &Network, rows: &[ArcRow], flow: &Tracked<i64>, balance: &Balance)
     requires rows { rows.now ≡ (reduced net.now).arcs }
     requires bounds { AllWithinBounds rows.now flow.now.entries }
     requires cost { IsWrappedCost rows.now flow.now.whole balance.now.cost }
-    ensures { result ≡ worth_by net.now.demand rows.now flow.now.entries }
+    ensures { result ≡ reduced_worth net.now.demand rows.now flow.now.entries }
 {
     match net.return_arc() {
         Some(_) => i128::from(flow.get(0)),
@@ -51,7 +51,7 @@ pub fn judge(net: &Network, rows: &[ArcRow], flow: &Tracked<i64>, balance: &Bala
     requires few { length balance.now.excess ≤ entry_limit }
     requires left_fits { left balance.now.excess < 2 ^ 63 }
     requires lack_fits { left balance.now.excess ≡ 0 → lack balance.now.excess < 2 ^ 63 }
-    ensures { IsJudged (worth_by net.now.demand rows.now flow.now.entries) balance.now.excess result }
+    ensures { IsJudged (reduced_worth net.now.demand rows.now flow.now.entries) balance.now.excess result }
 {
     let left = balance.excess.amount(Side::Ahead);
     if left > 0 {

@@ -44,7 +44,7 @@ impl Model for Tables {
     ghost use Rattle.std.specs.Prelude.{drop};
     ghost use Rattle.flow_solver.specs.TablesView.{TablesView};
     ghost use Rattle.flow_solver.specs.Part.{before_of};
-    ghost use Rattle.flow_solver.specs.Tables.{AreTables, kept_by};
+    ghost use Rattle.flow_solver.specs.Tables.{AreConsistent, kept_by};
 
     ghost Value = { TablesView };
 
@@ -54,7 +54,7 @@ impl Model for Tables {
       before = before_of t.before.verdict t.graph.net (kept_by t.flow t.potentials.table t.cut t.before.log.items);
     } };
 
-    ghost invariant = { λ t. AreTables t.graph t.flow t.potentials t.balance t.cut t.scratch t.before };
+    ghost invariant = { λ t. AreConsistent t.graph t.flow t.potentials t.balance t.cut t.scratch t.before };
 }
 
 impl Tables {

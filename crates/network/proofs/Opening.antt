@@ -15,7 +15,7 @@ use Rattle.dimacs_text.specs.Lawful.{NamesOthers, IsProblem, IsLawfulMark, HasLa
 use Rattle.dimacs_text.specs.Problem.{node_of, is_named, supply_at}
 use Rattle.dimacs_text.specs.Reading.{ProblemValue}
 use Rattle.network.specs.Instance.{Supplies, Sides, DemandFits, ArcFits, IsLawful, at_node, by_node, demand_of, first, reduced_supply}
-use Rattle.network.specs.Representation.{demand_by, instance_of, IsStart}
+use Rattle.network.specs.Representation.{demand_by, instance_of, CanBegin}
 use Rattle.network.specs.Start.{goal_of, marked_supply, supply_or, unmarked_supply}
 
 -- ---- lists with one entry a node
@@ -209,7 +209,7 @@ instance_is problem extra is =
     rw (made-length problem, demand_is problem.kind problem.nodes problem.marks (of_kind problem.kind problem.nodes problem.marks problem.arcs is)) refl
 
 pub is_start : (problem : ProblemValue) (extra : ℕ) → IsProblem problem.kind problem.nodes problem.marks problem.arcs
-    → IsStart (goal_of problem.kind problem.marks) (made problem) (first problem extra).room
+    → CanBegin (goal_of problem.kind problem.marks) (made problem) (first problem extra).room
 is_start problem extra is =
     let all = of_kind problem.kind problem.nodes problem.marks problem.arcs is in
     let full = first_lawful problem extra is in

@@ -27,7 +27,7 @@ pub record IsSound (nodes : ℕ) (goal : Goal) (supplies : List ℤ) (arcs : Lis
   pub ends_fit : 2 * room ≤ next_room
 
 -- an instance without arcs may begin so
-pub record IsStart (goal : Goal) (supplies : List ℤ) (room : ℕ) : Type 0 where
+pub record CanBegin (goal : Goal) (supplies : List ℤ) (room : ℕ) : Type 0 where
   pub lawful : IsLawful (instance_of (length supplies) goal supplies [] room)
   pub supply_is : (v : ℕ) → 1 ≤ v → v ≤ length supplies → at_node supplies v ≡ reduced_supply (demand_by goal supplies) v
   pub small : All (IsWithin SUPPLY_LIMIT) supplies

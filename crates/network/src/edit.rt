@@ -3,7 +3,7 @@ ghost use Rattle.std.specs.Prelude.{◌≡◌, ℕ, ◌+◌, ◌-◌, ◌<◌, �
 ghost use Rattle.network.specs.Ends.{AddsEnd, RemovesEnd};
 ghost use Rattle.dimacs_text.specs.Lawful.{IsLawfulRow, IsNode, IsWithin};
 ghost use Rattle.network.specs.Instance.{ArcFits, at_node, kind_of, with_supply};
-ghost use Rattle.network.specs.Representation.{instance_of, IsStart};
+ghost use Rattle.network.specs.Representation.{instance_of, CanBegin};
 
 use crate::{Goal, Network};
 use dimacs_text::{ArcRow, Kind, SUPPLY_LIMIT};
@@ -44,7 +44,7 @@ impl Network {
         supplies: Vec<i64>,
         room: usize,
     ) -> Result<Network, AllocError>
-        requires { IsStart goal supplies.items room }
+        requires { CanBegin goal supplies.items room }
         ensures { IfOk result (λ n. n ≡ instance_of (vec_len supplies) goal supplies.items [] room) }
     {
         let arcs = Vec::with_capacity(alloc, room)?;

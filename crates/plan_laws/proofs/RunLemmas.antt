@@ -14,7 +14,7 @@ use Rattle.residual_graph.specs.Residual.{number_at}
 use Rattle.flow_solver.specs.declared.verdict.Verdict.TheVariants.{Best}
 use Rattle.flow_solver.specs.Answer.{IsAnswered}
 use Rattle.flow_solver.specs.Edit.{AreMade, ChangeAllTo}
-use Rattle.flow_solver.specs.Moment.{IsSized, Moment}
+use Rattle.flow_solver.specs.Moment.{IsWellFormed, Moment}
 use Rattle.flow_solver.specs.TablesView.{flow_index}
 use Rattle.plan_laws.specs.Stability.{IsLeftOut, LeadThrough, MovesWithin, edits_of}
 use Rattle.plan_laws.proofs.StabilityLemmas.{AreElsewhere, IsElsewhere, edits_move, kind_all, none_left, other_place, place_below, place_in, place_is, pushes-length, still_there, total_positive, verdict_legal}
@@ -86,7 +86,7 @@ moves_along (edits ∷ groups) m n place led below others =
     let moved = rest.moves in
     record { kind = rest.kind ∙ kinds; moves = omega (arith, ints, first, moved, split, way) }
 
-pub run_moves : (m n : Moment) (groups : List (List Edit)) (k : ℕ) → IsSized m → LeadThrough groups m n → IsLeftOut m.instance (edits_of groups) k
+pub run_moves : (m n : Moment) (groups : List (List Edit)) (k : ℕ) → IsWellFormed m → LeadThrough groups m n → IsLeftOut m.instance (edits_of groups) k
     → MovesWithin (total_excess (reduced m.instance) m.flow +ℤ pos (units_all m.instance (edits_of groups))) k m n
 run_moves m n groups k sized led left_out =
     let edits = edits_of groups in

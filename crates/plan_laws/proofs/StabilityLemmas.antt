@@ -29,7 +29,7 @@ use Rattle.flow_solver.specs.declared.verdict.Verdict.{Verdict}
 use Rattle.flow_solver.specs.declared.verdict.Verdict.TheVariants.{Best, Infeasible}
 use Rattle.flow_solver.specs.Answer.{IsAnswered, IsVerdict}
 use Rattle.flow_solver.specs.Edit.{AreChanges, AreMade, ChangeAllTo, ChangesTo, GoesToNearest, IsAltered, IsChange}
-use Rattle.flow_solver.specs.Moment.{IsSized, Moment}
+use Rattle.flow_solver.specs.Moment.{IsWellFormed, Moment}
 use Rattle.plan_laws.specs.Stability.{IsLeftOut, MovesWithin}
 use Rattle.flow_solver.specs.TablesView.{flow_index}
 use Rattle.flow_solver.proofs.GroupLemmas.{grown_all, units_one}
@@ -340,7 +340,7 @@ place_below (Supplies supplies) arcs k from to = omega (arith, from, to)
 place_below (Terminals source sink) arcs k from to = omega (arith, from, to)
 place_below (Sides marks) arcs k from to = omega (arith, from, to)
 
-pub moves_within : (m n : Moment) (edits : List Edit) (pushes k : ℕ) → IsSized m → IsSized n → ChangeAllTo edits m n pushes → IsLeftOut m.instance edits k
+pub moves_within : (m n : Moment) (edits : List Edit) (pushes k : ℕ) → IsWellFormed m → IsWellFormed n → ChangeAllTo edits m n pushes → IsLeftOut m.instance edits k
     → MovesWithin (total_excess (reduced m.instance) m.flow +ℤ pos (units_all m.instance edits)) k m n
 moves_within m n edits pushes k before after change left_out =
     let place = flow_index m.instance.demand k in

@@ -9,7 +9,7 @@ ghost use Rattle.network.specs.Instance.{at_node, reduced};
 ghost use Rattle.augmentation.specs.Push.{Pushes};
 ghost use Rattle.flow_solver.specs.Answer.{IsAnswered};
 ghost use Rattle.flow_solver.specs.Edit.{CanMake, ChangeAllTo, ChangesTo, HasPotentials, IsCertifiedMoment, IsMadeIn, IsNearest, IsOfAdd, IsOfArc, IsOfSupply, KeepsResidualArcs, MakeAll, arc_flow, arc_reduced, arc_row};
-ghost use Rattle.flow_solver.specs.Moment.{IsSized, kept_of};
+ghost use Rattle.flow_solver.specs.Moment.{IsWellFormed, kept_of};
 ghost use Rattle.flow_solver.specs.Part.{before_all, before_part, CanTakeBack, CanTakeBackAll, IsLogged, LeadsBack};
 
 use super::Tables;
@@ -274,7 +274,7 @@ impl Tables {
         ensures moment { self.new.moment ≡ self.old.moment }
         ensures before { self.new.before ≡ None }
         ensures kept { self.new.kept ≡ kept_of self.old.moment }
-        ensures sized { IsSized self.new.moment }
+        ensures sized { IsWellFormed self.new.moment }
     {
         self.before.verdict = None;
         self.balance.cost = cost_now(self.graph.rows(), &self.flow, self.balance.cost);

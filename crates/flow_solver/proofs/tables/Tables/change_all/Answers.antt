@@ -3,7 +3,7 @@ use Rattle.std.proofs.lemmas.Int.{ints}
 use Rattle.network.specs.Instance.{Instance, at_node, reduced}
 use Rattle.flow_solver.specs.TablesView.{TablesView}
 use Rattle.flow_solver.specs.Edit.{AreChanges, AreMade}
-use Rattle.flow_solver.specs.Moment.{IsSized, Snapshot, kept_of}
+use Rattle.flow_solver.specs.Moment.{IsWellFormed, Snapshot, kept_of}
 use Rattle.flow_solver.specs.Part.{LeadsBack, before_all}
 use Rattle.flow_solver.specs.Tables.{kept_by}
 use Rattle.flow_solver.proofs.TablesViewLemmas.{moment_kept}
@@ -31,7 +31,7 @@ kept_is c =
 pub invariant_of-self : goal.invariant_of-self
 invariant_of-self c =
     let inv = c.self-2.invariant in
-    let sized = subst IsSized c.snapshot.ensures.moment c.snapshot.ensures.sized in
+    let sized = subst IsWellFormed c.snapshot.ensures.moment c.snapshot.ensures.sized in
     let leads = back c in
     record {
       fit = inv.fit;

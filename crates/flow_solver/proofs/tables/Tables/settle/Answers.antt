@@ -5,7 +5,7 @@ use Rattle.network.specs.Instance.{at_node, reduced}
 use Rattle.network.proofs.Reduction.{reduced_ends}
 use Rattle.augmentation.specs.Push.{IsExcess}
 use Rattle.flow_solver.specs.Balance.{IsBalanceOf}
-use Rattle.flow_solver.specs.Answer.{IsJudged, worth_by}
+use Rattle.flow_solver.specs.Answer.{IsJudged, reduced_worth}
 use Rattle.augmentation.specs.Nodes.{held}
 use Rattle.flow_solver.specs.TablesView.{TablesView}
 use Rattle.flow_solver.proofs.TablesViewLemmas.{fit_written, sized_written}
@@ -71,7 +71,7 @@ judge-self-inside-requires-clause-left_fits c = left_fits _ _ _ _ _ (end (goal.a
 pub judge-self-inside-requires-clause-lack_fits : goal.judge-self-inside-requires-clause-lack_fits
 judge-self-inside-requires-clause-lack_fits c = lack_fits _ _ _ _ _ (end (goal.at.judge-self-inside-requires-clause-lack_fits c).After-settle-pushes)
 
-judged : (c : After-judge-self-inside) → IsJudged (worth_by c.self.inside.graph.net.demand (reduced c.self.inside.graph.net).arcs c.settle-pushes.new.flow.entries) c.settle-pushes.new.excess c.judge-self-inside.result
+judged : (c : After-judge-self-inside) → IsJudged (reduced_worth c.self.inside.graph.net.demand (reduced c.self.inside.graph.net).arcs c.settle-pushes.new.flow.entries) c.settle-pushes.new.excess c.judge-self-inside.result
 judged c = rw c.self.invariant.graph.rows.rows_are at (rw c.rows.ensures at (rw c.network.ensures at c.judge-self-inside.ensures))
 
 pub invariant_of-self : goal.invariant_of-self
