@@ -4,6 +4,7 @@ use Rattle.std.specs.Int.{int_wrap, w128}
 use Rattle.std.proofs.lemmas.List.{get_or_push, length-append, length-take-le, take_all, take_more}
 use Rattle.dimacs_text.specs.declared.problem.ArcRow.{ArcRow}
 use Rattle.dimacs_text.specs.declared.problem.Kind.TheVariants.{Min}
+use Rattle.network.specs.Edited.{with_last}
 use Rattle.network.specs.Instance.{Demand, Instance, IsLawful, kind_of, reduced, reduced_arcs}
 use Rattle.flow_solver.specs.declared.balance.Balance.{Balance}
 use Rattle.flow_solver.specs.Balance.{AreEndsIn, IsBalanceOf, IsCarried, IsRaised, IsWrappedCost, IsWrappedExcess}
@@ -12,7 +13,7 @@ use Rattle.residual_graph.specs.Residual.{row_at, number_at}
 use Rattle.flow_solver.specs.TablesView.{flow_index}
 use Rattle.tracked.specs.Tracked.{TrackedView}
 use Rattle.flow_solver.proofs.BalanceLemmas.{cost_first, cost_last, cost_row, excess_first, excess_last, excess_row, excess_set, excess_supplied}
-use Rattle.residual_graph.proofs.GraphLemmas.{with_last, with_row}
+use Rattle.residual_graph.proofs.GraphLemmas.{with_row}
 use Rattle.flow_solver.proofs.ChangeLemmas.{place_in, row_is, rows_changed, supplied, supplies_held}
 use Rattle.flow_solver.proofs.InstanceLemmas.{rows_of_instance}
 use Rattle.residual_graph.proofs.NodeNumbers.{IsNodeOf}

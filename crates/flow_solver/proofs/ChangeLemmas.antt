@@ -11,6 +11,7 @@ use Rattle.dimacs_text.specs.Lawful.{IsLawfulRow, IsWithin}
 use Rattle.dimacs_text.specs.declared.problem.TheConstants.{SUPPLY_LIMIT}
 use Rattle.dimacs_text.specs.declared.problem.Kind.TheVariants.{Min}
 use Rattle.network.specs.Flow.{MinCost, AllEndsAreNodes, FollowsSign, IsCertifiedFlow, IsWithinBounds, net, reduced_cost, total_excess}
+use Rattle.network.specs.Edited.{with_last}
 use Rattle.network.specs.Instance.{Demand, Supplies, Terminals, Instance, IsLawful, ArcFits, DemandFits, at_node, kind_of, numbered_flow, reduced, reduced_arcs, reduced_supply, with_supply}
 use Rattle.network.proofs.Reduction.{reduced_ends}
 use Rattle.residual_graph.specs.Residual.{number_at, row_at}
@@ -24,7 +25,7 @@ use Rattle.augmentation.proofs.PushLemmas.{at_same, at_other}
 use Rattle.flow_solver.proofs.ExcessLemmas.{left-gain, at_node_bounds}
 use Rattle.flow_solver.proofs.BalanceLemmas.{net-push, net-set, net-set_row}
 use Rattle.flow_solver.proofs.PushLaws.{left_is}
-use Rattle.residual_graph.proofs.GraphLemmas.{lawful_row, with_last, with_row}
+use Rattle.residual_graph.proofs.GraphLemmas.{lawful_row, with_row}
 use Rattle.residual_graph.proofs.WalkLemmas.{rows_push}
 
 -- ---- the instance and its rows

@@ -10,13 +10,13 @@ use Rattle.dimacs_text.specs.declared.command.Edit.TheVariants.{Cap, Low, Cost, 
 use Rattle.dimacs_text.specs.declared.problem.ArcRow.{ArcRow}
 use Rattle.network.specs.declared.refusal.EditRefusal.{EditRefusal}
 use Rattle.network.specs.declared.refusal.EditRefusal.TheVariants.{NotForKind, OutOfRange, NoSuchNode, LowAboveCap, NotAcrossSides, TableFull}
-use Rattle.network.specs.Edited.{arc_of, edited, edited_by, has_room, is_across, is_new_row, is_node, row_or, tried, units, with_arc}
+use Rattle.network.specs.Edited.{arc_of, edited, edited_by, has_room, is_across, is_new_row, is_node, row_or, tried, units, with_arc, with_last}
 use Rattle.network.specs.Flow.{IsCertifiedFlow, FollowsSign, reduced_cost}
 use Rattle.network.specs.Instance.{Instance, IsLawful, arc_at, kind_of, reduced}
 use Rattle.network.proofs.EditedLemmas.{demand_ok, numbered_ok}
 use Rattle.network.proofs.EditedShape.{done_is}
 use Rattle.residual_graph.specs.Residual.{IsWithinRow, number_at}
-use Rattle.residual_graph.proofs.GraphLemmas.{with_last, with_row, lawful_more}
+use Rattle.residual_graph.proofs.GraphLemmas.{with_row, lawful_more}
 use Rattle.flow_solver.specs.TablesView.{flow_index}
 use Rattle.flow_solver.specs.Edit.{IsNearest, IsRowEdit, IsSupplyEdit, IsAltered, IsOfArc, GoesToNearest, IsAddEdit, IsMade, row_after_edit}
 use Rattle.flow_solver.proofs.FlowLaws.{bounds_at, bounds_length, signs_at}

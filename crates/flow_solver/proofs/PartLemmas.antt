@@ -8,13 +8,13 @@ use Rattle.dimacs_text.specs.declared.problem.ArcRow.{ArcRow}
 use Rattle.dimacs_text.specs.declared.problem.TheConstants.{SUPPLY_LIMIT}
 use Rattle.dimacs_text.specs.declared.problem.Kind.TheVariants.{Min}
 use Rattle.dimacs_text.specs.Lawful.{IsWithin}
-use Rattle.network.specs.Edited.{edited}
+use Rattle.network.specs.Edited.{edited, with_last}
 use Rattle.network.specs.Instance.{Demand, Supplies, Instance, IsLawful, DemandFits, arc_at, at_node, kind_of, reduced_supply, with_supply}
 use Rattle.flow_solver.specs.declared.part.Part.{Part}
 use Rattle.flow_solver.specs.declared.part.Part.TheVariants.{Arc, Supply, Last}
 use Rattle.flow_solver.specs.Edit.{IsRowEdit, IsSupplyEdit, IsAddEdit}
 use Rattle.flow_solver.specs.Part.{before_part, CanTakeBack, TakesBack}
-use Rattle.residual_graph.proofs.GraphLemmas.{with_row, with_last}
+use Rattle.residual_graph.proofs.GraphLemmas.{with_row}
 use Rattle.flow_solver.proofs.ChangeLemmas.{supplied}
 use Rattle.flow_solver.proofs.EditRows.{row_there}
 

@@ -10,6 +10,7 @@ use Rattle.std.proofs.lemmas.List.{get_or_append_left, get_or-set_other, get_or-
 use Rattle.dimacs_text.specs.declared.problem.ArcRow.{ArcRow}
 use Rattle.dimacs_text.specs.Lawful.{IsLawfulRow}
 use Rattle.network.specs.Flow.{MinCost, FollowsSign, IsCertifiedFlow, IsGreatestPotential, IsPotential, reduced_cost}
+use Rattle.network.specs.Edited.{with_last}
 use Rattle.network.specs.Instance.{Instance, IsLawful, arc_at, at_node, reduced}
 use Rattle.network.proofs.Reduction.{reduced_ends}
 use Rattle.residual_graph.specs.declared.graph.Graph.{Graph}
@@ -26,7 +27,7 @@ use Rattle.flow_solver.specs.Potentials.{AreAsTold}
 use Rattle.flow_solver.specs.declared.potentials.Potentials.{Potentials}
 use Rattle.flow_solver.specs.Tables.{AreConsistent}
 use Rattle.flow_solver.proofs.AnswerLemmas.{agrees_at}
-use Rattle.residual_graph.proofs.GraphLemmas.{with_row, with_last}
+use Rattle.residual_graph.proofs.GraphLemmas.{with_row}
 use Rattle.flow_solver.proofs.ChangeLemmas.{supplied, row_is, rows_changed, rows_more, rows_kept}
 use Rattle.flow_solver.proofs.EditRows.{row_there}
 use Rattle.flow_solver.proofs.FlowLaws.{bounds_at, bounds_length, greatest_flow, signs_at, zip_from}

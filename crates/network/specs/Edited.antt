@@ -55,8 +55,15 @@ abbrev pub row_or : {A : Type 0} → Option ArcRow → (ArcRow → Result A Edit
 row_or None rest = Err NoSuchArc
 row_or (Some row) rest = rest row
 
+-- an instance with another row of arc k, with one arc more, and with another supply of node v
 abbrev pub with_arc : Instance → ℕ → ArcRow → Instance
 with_arc I k row = record I { arcs = slice_set I.arcs (k - 1) row }
+
+abbrev pub with_last : Instance → ArcRow → Instance
+with_last I row = record I { arcs = I.arcs ++ row ∷ [] }
+
+abbrev pub with_node_supply : Instance → ℕ → ℤ → Instance
+with_node_supply I v supply = record I { demand = with_supply I.demand v supply }
 
 abbrev pub added : Instance → ℕ → ℕ → ℤ → ℤ → ℤ → Result Instance EditRefusal
 added I tail head low cap cost =
@@ -64,7 +71,7 @@ added I tail head low cap cost =
     demand (int_le low cap) LowAboveCap (
     demand (is_across I.demand tail head) NotAcrossSides (
     demand (has_room I) TableFull (
-    Ok (record I { arcs = I.arcs ++ record { tail = tail; head = head; low = low; cap = cap; cost = cost } ∷ [] })))))
+    Ok (with_last I (record { tail = tail; head = head; low = low; cap = cap; cost = cost }))))))
 
 abbrev pub edited_by : Instance → Edit → Result Instance EditRefusal
 edited_by I (Cap k cap) =
@@ -74,7 +81,7 @@ edited_by I (Low k low) =
 edited_by I (Cost k cost) =
     demand (is_within COST_LIMIT cost) OutOfRange (row_or (arc_at I.arcs k) (λ row. Ok (with_arc I k (record row { cost = cost }))))
 edited_by I (Supply v value) =
-    demand (is_within SUPPLY_LIMIT value) OutOfRange (demand (is_node I.nodes v) NoSuchNode (Ok (record I { demand = with_supply I.demand v value })))
+    demand (is_within SUPPLY_LIMIT value) OutOfRange (demand (is_node I.nodes v) NoSuchNode (Ok (with_node_supply I v value)))
 edited_by I (Add tail head low cap cost) = demand (is_new_row (kind_of I.demand) low cap cost) OutOfRange (added I tail head low cap cost)
 edited_by I (Close k) = row_or (arc_at I.arcs k) (λ row. Ok (with_arc I k (record row { low = pos 0; cap = pos 0 })))
 
@@ -102,6 +109,11 @@ edited_all I (edit ∷ edits) = and_then (edited I edit) (λ after. edited_all a
 abbrev pub outcome : {E : Type 0} → Result Instance E → Result (Unit {0}) E
 outcome (Ok I) = Ok tt
 outcome (Err refusal) = Err refusal
+
+-- the answer to an edit of the arc with this row, of whichever instance and number that is
+abbrev pub AnswersEditOf : Option ArcRow → (ℕ → Edit) → Result (Unit {0}) EditRefusal → Type 0
+AnswersEditOf row edit answer =
+    (before : Instance) (arc : ℕ) → row ≡ arc_at before.arcs arc → answer ≡ outcome (edited_by before (edit arc))
 
 -- ---- how far an edit can put a flow off
 

@@ -1,7 +1,7 @@
 -- Instances of the three kinds, legal and best flows of each, and how each is read as a minimum-cost flow.
 -- The kinds are those of the network formats of the First DIMACS Implementation Challenge (1991): minimum-cost flow, maximum flow, assignment.
 -- The reductions are those of Ahuja, Magnanti, Orlin, "Network Flows": a maximum flow as a circulation with a return arc, an assignment with a unit of supply on each side.
-use Rattle.std.specs.Prelude.{◌≡◌, ◌≢◌, ℕ, zero, suc, ◌+◌, min, map, slice_get, ◌-◌, ◌≤◌, ◌==◌, ℤ, pos, neg_ℤ, ◌≤ℤ◌, ◌⊎◌, Bool, true, false, ◌||◌, if◌then◌else◌, Option, Some, None, List, ◌∷◌, length, drop, All, slice_index_or, slice_set}
+use Rattle.std.specs.Prelude.{◌≡◌, ◌≢◌, ℕ, zero, suc, ◌+◌, ◌*◌, min, map, slice_get, ◌-◌, ◌≤◌, ◌==◌, ℤ, pos, neg_ℤ, ◌*ℤ◌, ◌≤ℤ◌, unsigned_abs, ◌⊎◌, Bool, true, false, ◌||◌, if◌then◌else◌, Option, Some, None, List, ◌∷◌, length, drop, All, slice_index_or, slice_set}
 use Rattle.std.specs.List.{AllZip, range_with_len}
 use Rattle.std.specs.Prelude.{⊤}
 use Rattle.dimacs_text.specs.declared.problem.ArcRow.{ArcRow}
@@ -10,7 +10,7 @@ use Rattle.dimacs_text.specs.declared.problem.Kind.TheVariants.{Min, Max, Asn}
 use Rattle.dimacs_text.specs.declared.problem.NodeMark.{NodeMark}
 use Rattle.dimacs_text.specs.Problem.{is_named, supply_at, source_of, sink_of}
 use Rattle.dimacs_text.specs.Reading.{ProblemValue}
-use Rattle.dimacs_text.specs.declared.problem.TheConstants.{NODE_LIMIT, ARC_LIMIT, SUPPLY_LIMIT}
+use Rattle.dimacs_text.specs.declared.problem.TheConstants.{NODE_LIMIT, ARC_LIMIT, CAP_LIMIT, COST_LIMIT, SUPPLY_LIMIT}
 use Rattle.dimacs_text.specs.Lawful.{IsLawfulRow, IsWithin}
 use Rattle.network.specs.declared.TheConstants.{RETURN_CAP}
 use Rattle.network.specs.Flow.{MinCost, IsNode, flow_sum, net, IsLegalFlow, IsWithinBounds, AllWithinBounds, FollowsSign, total_cost, IsCertifiedFlow, IsViolatedCut}
@@ -89,6 +89,10 @@ abbrev pub DemandFits : ℕ → Demand → Type 0
 DemandFits nodes (Supplies supplies) = (length supplies ≡ nodes) × All (IsWithin SUPPLY_LIMIT) supplies
 DemandFits nodes (Terminals source sink) = ((1 ≤ source) × (source ≤ nodes)) × ((1 ≤ sink) × (sink ≤ nodes)) × (source ≢ sink)
 DemandFits nodes (Sides marks) = length marks ≡ nodes
+
+-- what a flow along an arc costs is within the limits
+abbrev pub HasSmallCost : ArcRow → ℤ → Type 0
+HasSmallCost arc x = unsigned_abs (arc.cost *ℤ x) ≤ unsigned_abs COST_LIMIT * CAP_LIMIT
 
 -- the limits of the format and what the kind asks for
 pub record IsLawful (I : Instance) : Type 0 where

@@ -1,8 +1,8 @@
 //! What a flow costs.
-ghost use Rattle.std.specs.Prelude.{◌≡◌, ◌*◌, ◌≤◌, ◌*ℤ◌, length, unsigned_abs};
+ghost use Rattle.std.specs.Prelude.{◌≡◌, ◌≤◌, ◌*ℤ◌, length};
 ghost use Rattle.std.specs.List.{AllZip};
-ghost use Rattle.dimacs_text.specs.declared.problem.TheConstants.{CAP_LIMIT, COST_LIMIT};
 ghost use Rattle.network.specs.Flow.{total_cost};
+ghost use Rattle.network.specs.Instance.{HasSmallCost};
 
 use dimacs_text::{ARC_LIMIT, ArcRow};
 
@@ -16,7 +16,7 @@ fn product(a: i64, b: i64) -> i128
 /// The cost of a flow: the sum of cost times flow over the arcs.
 pub(crate) fn total_cost(arcs: &[ArcRow], flow: &[i64]) -> i128
     requires few { length arcs.now ≤ ARC_LIMIT }
-    requires terms { AllZip (λ arc x. unsigned_abs (arc.cost *ℤ x) ≤ unsigned_abs COST_LIMIT * CAP_LIMIT) arcs.now flow.now }
+    requires terms { AllZip HasSmallCost arcs.now flow.now }
     ensures { result ≡ total_cost arcs.now flow.now }
 {
     let mut total = 0;

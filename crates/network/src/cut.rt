@@ -1,11 +1,11 @@
 //! The two values of a cut, each of which rules out a legal flow where it is above 0.
-ghost use Rattle.std.specs.Prelude.{◌≡◌, ◌+◌, ◌*◌, ◌<◌, ◌≤◌, pos, if◌then◌else◌, All, length, unsigned_abs};
-ghost use Rattle.network.specs.Flow.{arcs_sum, supply_of};
-ghost use Rattle.network.specs.Cut.{arc_part, cut_value};
+ghost use Rattle.std.specs.Prelude.{◌≡◌, ◌+◌, ◌*◌, ◌<◌, ◌≤◌, All, length, unsigned_abs};
+ghost use Rattle.network.specs.Flow.{supply_of};
+ghost use Rattle.network.specs.Cut.{arc_part, arcs_part, cut_value, supply_in};
 ghost use Rattle.dimacs_text.specs.Lawful.{IsLawfulRow, IsWithin};
 ghost use Rattle.dimacs_text.specs.declared.problem.TheConstants.{CAP_LIMIT, NODE_LIMIT, SUPPLY_LIMIT};
 ghost use Rattle.network.specs.declared.TheConstants.{RETURN_CAP};
-ghost use Rattle.network.specs.Instance.{is_marked, reduced, reduced_supply};
+ghost use Rattle.network.specs.Instance.{is_marked, reduced};
 
 use crate::{CutForm, Network};
 use dimacs_text::{ARC_LIMIT, ArcRow};
@@ -38,7 +38,7 @@ fn arc_part(form: CutForm, arc: &ArcRow, cut: &[bool]) -> i64
 fn arcs_part(form: CutForm, arcs: &[ArcRow], cut: &[bool]) -> i64
     requires few { length arcs.now ≤ ARC_LIMIT }
     requires limits { All (IsLawfulRow (length cut.now)) arcs.now }
-    ensures value { result ≡ arcs_sum (arc_part form (is_marked cut.now)) arcs.now }
+    ensures value { result ≡ arcs_part form (is_marked cut.now) arcs.now }
     ensures small { unsigned_abs result ≤ 2 * CAP_LIMIT * ARC_LIMIT }
 {
     let mut total = 0;
@@ -53,8 +53,7 @@ impl Network {
     fn supply_in(&self, cut: &[bool], k: usize) -> i64
         requires nodes { length cut.now ≡ self.now.nodes }
         requires node { k < self.now.nodes }
-        ensures value { result ≡ (if is_marked cut.now (k + 1) then reduced_supply self.now.demand (k + 1)
-            else pos 0) }
+        ensures value { result ≡ supply_in (reduced self.now) (is_marked cut.now) (k + 1) }
         ensures small { IsWithin SUPPLY_LIMIT result }
     {
         if cut[k] { self.supplies[k] } else { 0 }
@@ -76,7 +75,7 @@ impl Network {
     /// What the arcs of the reduced instance add to the value of a cut.
     fn reduced_part(&self, form: CutForm, cut: &[bool]) -> i64
         requires nodes { length cut.now ≡ self.now.nodes }
-        ensures value { result ≡ arcs_sum (arc_part form (is_marked cut.now)) (reduced self.now).arcs }
+        ensures value { result ≡ arcs_part form (is_marked cut.now) (reduced self.now).arcs }
         ensures small { unsigned_abs result ≤ 2 * CAP_LIMIT * ARC_LIMIT + unsigned_abs RETURN_CAP }
     {
         let arcs = arcs_part(form, &self.arcs, cut);

@@ -1,8 +1,9 @@
 //! How an instance is made, and how it grows.
-ghost use Rattle.std.specs.Prelude.{◌≡◌, ℕ, ◌+◌, ◌-◌, ◌<◌, ◌≤◌, [], ◌∷◌, ◌++◌, All, IfOk, length, slice_index_or, slice_set, vec_capacity, vec_len};
+ghost use Rattle.std.specs.Prelude.{◌≡◌, ◌+◌, ◌-◌, ◌<◌, ◌≤◌, [], All, IfOk, length, slice_index_or, vec_capacity, vec_len};
 ghost use Rattle.network.specs.Ends.{AddsEnd, RemovesEnd};
 ghost use Rattle.dimacs_text.specs.Lawful.{IsLawfulRow, IsNode, IsWithin};
-ghost use Rattle.network.specs.Instance.{ArcFits, at_node, kind_of, with_supply};
+ghost use Rattle.network.specs.Edited.{with_arc, with_last, with_node_supply};
+ghost use Rattle.network.specs.Instance.{ArcFits, at_node, kind_of};
 ghost use Rattle.network.specs.Representation.{instance_of, CanBegin};
 
 use crate::{Goal, Network};
@@ -45,7 +46,8 @@ impl Network {
         room: usize,
     ) -> Result<Network, AllocError>
         requires { CanBegin goal supplies.items room }
-        ensures { IfOk result (λ n. n ≡ instance_of (vec_len supplies) goal supplies.items [] room) }
+        ensures { IfOk result
+            (λ n. n ≡ instance_of (vec_len supplies) goal supplies.items [] room) }
     {
         let arcs = Vec::with_capacity(alloc, room)?;
         let next = Vec::with_capacity(alloc, 2 * room)?;
@@ -66,7 +68,7 @@ impl Network {
         requires room { length self.old.arcs < self.old.room }
         requires limits { IsLawfulRow self.old.nodes row }
         requires fits { ArcFits self.old.demand row }
-        ensures { self.new ≡ record self.old { arcs = self.old.arcs ++ row ∷ [] } }
+        ensures { self.new ≡ with_last self.old row }
     {
         let end = 2 * self.arcs.len() as u32;
         link_end(&mut self.first, &mut self.next, row.tail, end);
@@ -79,7 +81,7 @@ impl Network {
     /// Takes the last arc off, and gives its room back.
     pub fn pop_arc(&mut self) -> ArcRow
         requires { 0 < length self.old.arcs }
-        ensures { self.old ≡ record self.new { arcs = self.new.arcs ++ result ∷ [] } }
+        ensures { self.old ≡ with_last self.new result }
     {
         let Some(row) = self.arcs.pop() else {
             unreachable!()
@@ -96,7 +98,7 @@ impl Network {
         requires head { row.head ≡ (slice_index_or self.old.arcs (k - 1) row).head }
         requires limits { IsLawfulRow self.old.nodes row }
         requires fits { ArcFits self.old.demand row }
-        ensures { self.new ≡ record self.old { arcs = slice_set self.old.arcs (k - 1) row } }
+        ensures { self.new ≡ with_arc self.old k row }
     {
         self.arcs[k as usize - 1] = row;
     }
@@ -106,7 +108,7 @@ impl Network {
         requires kind { kind_of self.old.demand ≡ Kind.Min }
         requires node { IsNode self.old.nodes id }
         requires limit { IsWithin SUPPLY_LIMIT value }
-        ensures { self.new ≡ record self.old { demand = with_supply self.old.demand id value } }
+        ensures { self.new ≡ with_node_supply self.old id value }
     {
         self.supplies[id as usize - 1] = value;
     }

@@ -3,7 +3,7 @@ ghost use Rattle.std.specs.Prelude.{◌≡◌, ◌≤◌, ◌&&◌, ℕ, ℤ, Li
 ghost use Rattle.std.specs.Result.{IsOk};
 ghost use Rattle.dimacs_text.specs.declared.command.Edit.{Edit};
 ghost use Rattle.dimacs_text.specs.declared.problem.TheConstants.{ARC_LIMIT};
-ghost use Rattle.network.specs.Edited.{EndsFit, SharesFrame, added, arc_of, count_after, edited, edited_all, edited_by, row_after, is_across, is_bound, is_new_row, is_node, is_within, suits_kind, outcome, tried};
+ghost use Rattle.network.specs.Edited.{AnswersEditOf, EndsFit, SharesFrame, added, arc_of, count_after, edited, edited_all, edited_by, row_after, is_across, is_bound, is_new_row, is_node, is_within, suits_kind, outcome, tried};
 ghost use Rattle.network.specs.Flow.{IsNode};
 ghost use Rattle.network.specs.Instance.{Instance, IsLawful, arc_at, kind_of, reduced};
 
@@ -65,7 +65,7 @@ fn arc_of(edit: &Edit) -> u64
 
 /// May an arc have the capacity?
 fn cap_edited(row: Option<ArcRow>, cap: i64) -> Result<(), EditRefusal>
-    ensures { (before : Instance) (arc : ℕ) → row ≡ arc_at before.arcs arc → result ≡ outcome (edited_by before (Edit.Cap arc cap)) }
+    ensures { AnswersEditOf row (λ arc. Edit.Cap arc cap) result }
 {
     if !is_bound(cap) {
         return Err(EditRefusal::OutOfRange);
@@ -80,7 +80,7 @@ fn cap_edited(row: Option<ArcRow>, cap: i64) -> Result<(), EditRefusal>
 
 /// May an arc have the lower bound?
 fn low_edited(row: Option<ArcRow>, low: i64) -> Result<(), EditRefusal>
-    ensures { (before : Instance) (arc : ℕ) → row ≡ arc_at before.arcs arc → result ≡ outcome (edited_by before (Edit.Low arc low)) }
+    ensures { AnswersEditOf row (λ arc. Edit.Low arc low) result }
 {
     if !is_bound(low) {
         return Err(EditRefusal::OutOfRange);
@@ -95,7 +95,7 @@ fn low_edited(row: Option<ArcRow>, low: i64) -> Result<(), EditRefusal>
 
 /// May an arc have the cost?
 fn cost_edited(row: Option<ArcRow>, cost: i64) -> Result<(), EditRefusal>
-    ensures { (before : Instance) (arc : ℕ) → row ≡ arc_at before.arcs arc → result ≡ outcome (edited_by before (Edit.Cost arc cost)) }
+    ensures { AnswersEditOf row (λ arc. Edit.Cost arc cost) result }
 {
     if !is_cost(cost) {
         return Err(EditRefusal::OutOfRange);
@@ -105,7 +105,7 @@ fn cost_edited(row: Option<ArcRow>, cost: i64) -> Result<(), EditRefusal>
 
 /// May an arc be closed?
 fn close_edited(row: Option<ArcRow>) -> Result<(), EditRefusal>
-    ensures { (before : Instance) (arc : ℕ) → row ≡ arc_at before.arcs arc → result ≡ outcome (edited_by before (Edit.Close arc)) }
+    ensures { AnswersEditOf row (λ arc. Edit.Close arc) result }
 {
     match row {
         Some(_) => Ok(()),
@@ -189,7 +189,8 @@ impl Network {
 
     /// May a node have the supply?
     fn supply_edited(&self, node: u64, value: i64) -> Result<(), EditRefusal>
-        ensures { (before : Instance) → SharesFrame self.now before → result ≡ outcome (edited_by before (Edit.Supply node value)) }
+        ensures { (before : Instance) → SharesFrame self.now before
+            → result ≡ outcome (edited_by before (Edit.Supply node value)) }
     {
         if !is_supply(value) {
             return Err(EditRefusal::OutOfRange);
@@ -209,7 +210,8 @@ impl Network {
         low: i64,
         cap: i64,
     ) -> Result<(), EditRefusal>
-        ensures { (before : Instance) (cost : ℤ) → SharesFrame self.now before → arcs ≡ length before.arcs
+        ensures { (before : Instance) (cost : ℤ) → SharesFrame self.now before
+            → arcs ≡ length before.arcs
             → result ≡ outcome (added before ends.0 ends.1 low cap cost) }
     {
         let (tail, head) = ends;
@@ -232,7 +234,8 @@ impl Network {
     /// The first refusal of an edit that applies, if one does, where the arc that it names is this one, if it is there,
     /// and so many arcs stand.
     fn tested(&self, edit: &Edit, row: Option<ArcRow>, arcs: usize) -> Result<(), EditRefusal>
-        ensures { (before : Instance) → SharesFrame self.now before → row ≡ arc_at before.arcs (arc_of edit.now)
+        ensures { (before : Instance) → SharesFrame self.now before
+            → row ≡ arc_at before.arcs (arc_of edit.now)
             → arcs ≡ length before.arcs → result ≡ outcome (tried before edit.now) }
     {
         if !edit.is_for(self.kind()) {
@@ -277,7 +280,8 @@ impl Network {
     /// The first refusal of an edit that applies, if one does, once other edits are made.
     fn tested_after(&self, edits: &[Edit], edit: &Edit) -> Result<(), EditRefusal>
         requires { IsOk (edited_all self.now edits.now) }
-        ensures { (before : Instance) → edited_all self.now edits.now ≡ Ok before → result ≡ outcome (tried before edit.now) }
+        ensures { (before : Instance) → edited_all self.now edits.now ≡ Ok before
+            → result ≡ outcome (tried before edit.now) }
     {
         let (row, arcs) = self.arc_after(edits, arc_of(edit));
         self.tested(edit, row, arcs)

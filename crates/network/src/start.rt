@@ -77,7 +77,8 @@ fn supplies_of(
 ) -> Result<Vec<i64>, AllocError>
     requires nodes { All (λ mark. IsNode nodes (node_of mark)) marks.now }
     requires once { AllPairs NamesOthers marks.now }
-    ensures { IfOk result (λ supplies. supplies.items ≡ by_node nodes (λ v. supply_or marks.now v unmarked)) }
+    ensures { IfOk result
+        (λ supplies. supplies.items ≡ by_node nodes (λ v. supply_or marks.now v unmarked)) }
 {
     let mut supplies = vec![in alloc; unmarked; nodes as usize]?;
     for mark in marks {
@@ -88,7 +89,8 @@ fn supplies_of(
 
 /// The problem's instance, before its arcs are put in.
 fn without_arcs(alloc: Global, problem: &Problem, extra: u32) -> Result<Network, AllocError>
-    ensures network { IfOk result (λ network. network ≡ record (first problem.now extra) { arcs = [] }) }
+    ensures network { IfOk result
+        (λ network. network ≡ record (first problem.now extra) { arcs = [] }) }
     ensures lawful { IfOk result (λ network. IsLawful (first problem.now extra)) }
 {
     let kind = problem.kind();

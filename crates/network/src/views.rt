@@ -58,7 +58,8 @@ impl Network {
 
     /// What a node has to send out in the instance's reduction to minimum cost, if it is a node.
     pub fn reduced_supply(&self, id: u32) -> Option<i64>
-        ensures node { IsNode (reduced self.now) id → result ≡ Some (reduced_supply self.now.demand id) }
+        ensures node { IsNode (reduced self.now) id
+            → result ≡ Some (reduced_supply self.now.demand id) }
         ensures no_node { ¬ IsNode (reduced self.now) id → result ≡ None }
     {
         if id == 0 {

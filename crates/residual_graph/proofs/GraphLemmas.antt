@@ -5,6 +5,7 @@ use Rattle.std.proofs.lemmas.List.Elements.{All-set, All-push}
 use Rattle.std.proofs.Math.Seq.{take-append_seam}
 use Rattle.dimacs_text.specs.declared.problem.ArcRow.{ArcRow}
 use Rattle.dimacs_text.specs.Lawful.{IsLawfulRow}
+use Rattle.network.specs.Edited.{with_last}
 use Rattle.network.specs.Instance.{Demand, Supplies, Terminals, Sides, Instance, IsLawful, ArcFits, reduced, reduced_arcs}
 use Rattle.residual_graph.specs.Graph.{GraphView, IsGraph}
 use Rattle.residual_graph.proofs.WalkLemmas.{rows_push}
@@ -41,10 +42,6 @@ graph_set g first i row is split lt limits fits = record {
 }
 
 -- ---- one arc more or less at the end
-
--- the instance with an arc more
-abbrev pub with_last : Instance → ArcRow → Instance
-with_last I row = record { nodes = I.nodes; demand = I.demand; arcs = I.arcs ++ row ∷ []; room = I.room }
 
 pub lawful_more : (I : Instance) (row : ArcRow) → IsLawful I → length I.arcs < I.room → IsLawfulRow I.nodes row → ArcFits I.demand row → IsLawful (with_last I row)
 lawful_more I row lawful free limits fits = record {

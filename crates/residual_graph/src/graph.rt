@@ -1,10 +1,11 @@
 //! The network in the forms that searches read.
 
-ghost use Rattle.std.specs.Prelude.{◌≡◌, ℕ, ◌+◌, ◌-◌, ◌*◌, ◌<◌, ◌≤◌, ◌↔◌, ◌++◌, ◌∷◌, [], IfOk, IfSome, IsTrue, length, slice_index, slice_index_or, slice_set};
+ghost use Rattle.std.specs.Prelude.{◌≡◌, ℕ, ◌+◌, ◌-◌, ◌*◌, ◌<◌, ◌≤◌, ◌↔◌, ◌++◌, ◌∷◌, [], IfOk, IfSome, IsTrue, length, slice_index, slice_index_or};
 ghost use Rattle.dimacs_text.specs.Lawful.{IsLawfulRow, IsNode, IsWithin};
 ghost use Rattle.dimacs_text.specs.declared.problem.Kind.TheVariants.{Min};
 ghost use Rattle.dimacs_text.specs.declared.problem.TheConstants.{SUPPLY_LIMIT};
-ghost use Rattle.network.specs.Instance.{ArcFits, kind_of, with_supply};
+ghost use Rattle.network.specs.Edited.{with_arc, with_last, with_node_supply};
+ghost use Rattle.network.specs.Instance.{ArcFits, kind_of};
 ghost use Rattle.residual_graph.specs.Graph.{IsGraph};
 ghost use Rattle.residual_graph.specs.Residual.{IsPseudoflow, IsResidual, row_at, end_at, start_at};
 ghost use Rattle.residual_graph.specs.Walk.{IsNextEnd, StandsAt, ends_before};
@@ -133,7 +134,7 @@ impl Graph {
         requires head { row.head ≡ (slice_index_or self.old.net.arcs (k - 1) row).head }
         requires limits { IsLawfulRow self.old.net.nodes row }
         requires fits { ArcFits self.old.net.demand row }
-        ensures net { self.new.net ≡ record self.old.net { arcs = slice_set self.old.net.arcs (k - 1) row } }
+        ensures net { self.new.net ≡ with_arc self.old.net k row }
         ensures one_a_row { length self.new.rows ≡ length self.old.rows }
         ensures graph { IsGraph self.new }
     {
@@ -148,7 +149,7 @@ impl Graph {
         requires kind { kind_of self.old.net.demand ≡ Min }
         requires node { IsNode self.old.net.nodes id }
         requires limit { IsWithin SUPPLY_LIMIT value }
-        ensures net { self.new.net ≡ record self.old.net { demand = with_supply self.old.net.demand id value } }
+        ensures net { self.new.net ≡ with_node_supply self.old.net id value }
         ensures rows { self.new.rows ≡ self.old.rows }
         ensures graph { IsGraph self.new }
     {
@@ -160,7 +161,7 @@ impl Graph {
         requires room { length self.old.net.arcs < self.old.net.room }
         requires limits { IsLawfulRow self.old.net.nodes row }
         requires fits { ArcFits self.old.net.demand row }
-        ensures net { self.new.net ≡ record self.old.net { arcs = self.old.net.arcs ++ row ∷ [] } }
+        ensures net { self.new.net ≡ with_last self.old.net row }
         ensures rows { self.new.rows ≡ self.old.rows ++ row ∷ [] }
         ensures graph { IsGraph self.new }
     {
@@ -173,7 +174,7 @@ impl Graph {
     /// Takes the last arc off.
     pub fn pop_arc(&mut self) -> ArcRow
         requires { 0 < length self.old.net.arcs }
-        ensures net { self.old.net ≡ record self.new.net { arcs = self.new.net.arcs ++ result ∷ [] } }
+        ensures net { self.old.net ≡ with_last self.new.net result }
         ensures rows { self.old.rows ≡ self.new.rows ++ result ∷ [] }
         ensures graph { IsGraph self.new }
     {

@@ -1,11 +1,11 @@
 use Rattle.std.proofs.Common.{◌≡◌, ◌∙◌, ◌++◌, ◌∷◌, [], ℤ, ap, subst, sym, rules, w64}
 use Rattle.std.proofs.lemmas.Int.{to_z-of_z}
+use Rattle.network.specs.Edited.{with_last}
 use Rattle.network.specs.Instance.{IsLawful, at_node, reduced}
 use Rattle.flow_solver.specs.Answer.{AreGreatestPotentials}
 use Rattle.flow_solver.specs.Edit.{IsAddEdit, IsCertifiedMoment, Makes}
 use Rattle.flow_solver.specs.Moment.{Moment}
 use Rattle.flow_solver.specs.TablesView.{TablesView}
-use Rattle.residual_graph.proofs.GraphLemmas.{with_last}
 use Rattle.flow_solver.proofs.ChangeLemmas.{certified_more}
 use Rattle.flow_solver.proofs.EditRows.{add_made}
 use Rattle.flow_solver.proofs.StandingLemmas.{greatest_more, tables_told}
