@@ -40,8 +40,16 @@ pub record IsCarried (row : ArcRow) (before after : ℤ) (e f : List ℤ) : Type
 abbrev pub AreEndsIn : ℕ → List ArcRow → Type 0
 AreEndsIn nodes arcs = (k : ℕ) → k < length arcs → ((row_at arcs k).tail < nodes) × ((row_at arcs k).head < nodes)
 
+-- what a node has to send out, and 0 where there is no such node
+abbrev pub node_supply : Instance → ℕ → ℤ
+node_supply I = held I.nodes (reduced I).supply
+
+-- where e is the excess of the flow x, f is that of the flow y, whatever the supplies are
+abbrev pub FollowsFlow : List ArcRow → List ℤ → List ℤ → List ℤ → List ℤ → Type 0
+FollowsFlow arcs x e y f = (supply : ℕ → ℤ) → IsWrappedExcess arcs supply x e → IsWrappedExcess arcs supply y f
+
 -- the excess of each node is that of the present flow of a `Tracked` table, the cost that of the flow in its snapshot
 pub record IsBalanceOf (I : Instance) (rows : List ArcRow) (flow : TrackedView ℤ) (b : Balance) : Type 0 where
   pub sized : length b.excess ≡ I.nodes + 1
-  pub excess : IsWrappedExcess rows (held I.nodes (reduced I).supply) flow.entries b.excess
+  pub excess : IsWrappedExcess rows (node_supply I) flow.entries b.excess
   pub cost : IsWrappedCost rows flow.whole b.cost

@@ -23,6 +23,10 @@ pub record IsNearest (a : ArcRow) (reduced x z : ℤ) : Type 0 where
   pub raised : reduced ≡ pos 0 → x <ℤ a.low → z ≡ a.low
   pub cut_off : reduced ≡ pos 0 → a.cap <ℤ x → z ≡ a.cap
 
+-- z is so under the potentials of the nodes
+abbrev pub IsNearestBy : (ℕ → ℤ) → ArcRow → ℤ → ℤ → Type 0
+IsNearestBy potential row x z = IsNearest row (reduced_cost potential row) x z
+
 -- an arc a of flow x keeps its residual arcs as the arc b of flow y: it costs the same, and has room still up to each bound up to which it had
 pub record KeepsResidualArcs (a : ArcRow) (x : ℤ) (b : ArcRow) (y : ℤ) : Type 0 where
   pub same_cost : b.cost ≡ a.cost
@@ -34,13 +38,13 @@ pub record GoesToNearest (J : Instance) (k : ℕ) (potential : ℕ → ℤ) (x s
   pub row : ArcRow
   pub there : arc_at J.arcs k ≡ Some row
   pub flow : ℤ
-  pub nearest : IsNearest row (reduced_cost potential row) (number_at x (flow_index J.demand k)) flow
+  pub nearest : IsNearestBy potential row (number_at x (flow_index J.demand k)) flow
   pub start_is : start ≡ slice_set x (flow_index J.demand k) flow
 
 -- a new arc gets the flow nearest to 0 that its row and the potentials allow, and no other flow is altered
 pub record BeginsNearest (row : ArcRow) (potential : ℕ → ℤ) (x start : List ℤ) : Type 0 where
   pub flow : ℤ
-  pub nearest : IsNearest row (reduced_cost potential row) (pos 0) flow
+  pub nearest : IsNearestBy potential row (pos 0) flow
   pub start_is : start ≡ x ++ flow ∷ []
 
 -- what an edit that gave the instance J alters in a flow x: that of its arc, which goes to the nearest value
@@ -102,7 +106,7 @@ pub record IsRowEdit (I : Instance) (edit : Edit) (k : ℕ) (row : ArcRow) : Typ
   pub fits : ArcFits I.demand row
   pub after : edited I edit ≡ Ok (record I { arcs = slice_set I.arcs (k - 1) row })
   pub altered : (J : Instance) (potential : ℕ → ℤ) (x start : List ℤ) → GoesToNearest J k potential x start → IsAltered J edit potential x start
-  pub moved : (potential : ℕ → ℤ) (x z : ℤ) → IsWithinRow (slice_index_or I.arcs (k - 1) row) x → FollowsSign potential (slice_index_or I.arcs (k - 1) row) x → IsNearest row (reduced_cost potential row) x z → unsigned_abs (z -ℤ x) ≤ units I edit
+  pub moved : (potential : ℕ → ℤ) (x z : ℤ) → IsWithinRow (slice_index_or I.arcs (k - 1) row) x → FollowsSign potential (slice_index_or I.arcs (k - 1) row) x → IsNearestBy potential row x z → unsigned_abs (z -ℤ x) ≤ units I edit
 
 -- the edit changes a supply
 pub record IsSupplyEdit (I : Instance) (edit : Edit) (v : ℕ) (value : ℤ) : Type 0 where
@@ -173,3 +177,15 @@ ChangesTo edit m n pushes = IsChange m.instance n.instance edit (at_node m.poten
 
 abbrev pub ChangeAllTo : List Edit → Moment → Moment → ℕ → Type 0
 ChangeAllTo edits m n pushes = AreChanges m.instance n.instance edits (at_node m.potentials) m.flow n.flow pushes
+
+-- arc k of the moment keeps its residual arcs once it has this row and this flow
+abbrev pub KeepsResidualArcsAt : Moment → ℕ → ArcRow → ℤ → Type 0
+KeepsResidualArcsAt m k row flow = KeepsResidualArcs (arc_row m k) (arc_flow m k) row flow
+
+-- so many pushes led from the flow of the first moment to that of the second
+abbrev pub PushesTo : ℕ → Moment → Moment → Type 0
+PushesTo pushes m n = Pushes (reduced m.instance).arcs (reduced m.instance).supply pushes m.flow n.flow
+
+-- what the nodes in excess have to send out still
+abbrev pub left_in : Moment → ℤ
+left_in m = total_excess (reduced m.instance) m.flow

@@ -33,6 +33,14 @@ pub record Snapshot : Type 0 where
 abbrev pub kept_of : Moment → Snapshot
 kept_of m = record { flow = m.flow; potentials = m.potentials; cut = m.cut; log = [] }
 
+-- what was kept is brought back, and told of it is this
+abbrev pub brought_back : Moment → Snapshot → Verdict → Moment
+brought_back m kept verdict = record m { flow = kept.flow; potentials = kept.potentials; verdict = verdict; cut = kept.cut }
+
+-- the flows of the numbered arcs
+abbrev pub arc_flows : Moment → List ℤ
+arc_flows m = numbered_flow m.instance.demand m.flow
+
 -- the flow of an arc at the start: its cap where its cost is below 0, else its low
 abbrev pub start : ArcRow → ℤ
 start arc = if int_lt arc.cost (pos 0) then arc.cap else arc.low

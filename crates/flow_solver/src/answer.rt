@@ -6,8 +6,7 @@ ghost use Rattle.network.specs.Instance.{reduced, IsLawful};
 ghost use Rattle.residual_graph.specs.Limits.{entry_limit};
 ghost use Rattle.augmentation.specs.Push.{AreSmall, left};
 ghost use Rattle.augmentation.specs.Cut.{lack};
-ghost use Rattle.augmentation.specs.Nodes.{held};
-ghost use Rattle.flow_solver.specs.Balance.{IsWrappedCost};
+ghost use Rattle.flow_solver.specs.Balance.{IsWrappedCost, node_supply};
 ghost use Rattle.flow_solver.specs.Answer.{IsJudged, reduced_worth};
 
 use crate::balance::{Balance, cost_now};
@@ -19,7 +18,7 @@ use tracked::Tracked;
 
 /// What a node has to send out in the reduced instance; 0 where there is no such node.
 pub fn supply_at(net: &Network, id: u32) -> i64
-    ensures { result ≡ held net.now.nodes (reduced net.now).supply id }
+    ensures { result ≡ node_supply net.now id }
 {
     match net.reduced_supply(id) {
         Some(supply) => supply,
@@ -51,7 +50,8 @@ pub fn judge(net: &Network, rows: &[ArcRow], flow: &Tracked<i64>, balance: &Bala
     requires few { length balance.now.excess ≤ entry_limit }
     requires left_fits { left balance.now.excess < 2 ^ 63 }
     requires lack_fits { left balance.now.excess ≡ 0 → lack balance.now.excess < 2 ^ 63 }
-    ensures { IsJudged (reduced_worth net.now.demand rows.now flow.now.entries) balance.now.excess result }
+    ensures { IsJudged (reduced_worth net.now.demand rows.now flow.now.entries)
+        balance.now.excess result }
 {
     let left = balance.excess.amount(Side::Ahead);
     if left > 0 {

@@ -2,11 +2,9 @@
 
 ghost use Rattle.std.specs.Prelude.{◌≡◌, ℕ, ℤ, pos, ◌+◌, ◌*ℤ◌, ◌+ℤ◌, ◌-ℤ◌, ◌<◌, ◌≤◌, IfOk, length};
 ghost use Rattle.std.specs.Int.{int_wrap, w128};
-ghost use Rattle.network.specs.Instance.{reduced};
 ghost use Rattle.residual_graph.specs.Limits.{entry_limit};
 ghost use Rattle.residual_graph.specs.Residual.{row_at, number_at};
-ghost use Rattle.augmentation.specs.Nodes.{held};
-ghost use Rattle.flow_solver.specs.Balance.{AreEndsIn, AreWrapped, IsCarried, IsRaised, IsWrappedCost, IsWrappedExcess};
+ghost use Rattle.flow_solver.specs.Balance.{AreEndsIn, AreWrapped, FollowsFlow, IsCarried, IsRaised, IsWrappedCost, IsWrappedExcess, node_supply};
 
 use crate::answer::supply_at;
 use augmentation::Excess;
@@ -36,7 +34,8 @@ impl Balance {
         requires ends { AreEndsIn (net.now.nodes + 1) rows.now }
         requires few { net.now.nodes + 1 ≤ entry_limit }
         ensures sized { IfOk result (λ b. length b.excess ≡ net.now.nodes + 1) }
-        ensures excess { IfOk result (λ b. IsWrappedExcess rows.now (held net.now.nodes (reduced net.now).supply) flow.now b.excess) }
+        ensures excess { IfOk result
+            (λ b. IsWrappedExcess rows.now (node_supply net.now) flow.now b.excess) }
         ensures cost { IfOk result (λ b. IsWrappedCost rows.now flow.now b.cost) }
     {
         let mut entries = vec![in alloc; 0; net.nodes() as usize + 1]?;
@@ -101,7 +100,7 @@ pub fn carry_back(rows: &[ArcRow], flow: &Tracked<i64>, excess: &mut Excess)
     requires as_many { length rows.now ≡ length flow.now.entries }
     requires ends { AreEndsIn (length excess.old) rows.now }
     ensures same_length { length excess.new ≡ length excess.old }
-    ensures excess { (supply : ℕ → ℤ) → IsWrappedExcess rows.now supply flow.now.entries excess.old → IsWrappedExcess rows.now supply flow.now.whole excess.new }
+    ensures excess { FollowsFlow rows.now flow.now.entries excess.old flow.now.whole excess.new }
 {
     let places = flow.places();
     let kept = flow.whole();
@@ -117,7 +116,7 @@ pub fn carry_back(rows: &[ArcRow], flow: &Tracked<i64>, excess: &mut Excess)
 fn fill_supplies(net: &Network, excess: &mut [i64])
     requires sized { length excess.old ≡ net.now.nodes + 1 }
     requires few { length excess.old ≤ entry_limit }
-    ensures { AreWrapped (held net.now.nodes (reduced net.now).supply) excess.new }
+    ensures { AreWrapped (node_supply net.now) excess.new }
 {
     for v in 0..excess.len() {
         excess[v] = supply_at(net, v as u32);
@@ -129,7 +128,8 @@ fn send(rows: &[ArcRow], flow: &[i64], excess: &mut Excess)
     requires same_length { length flow.now ≡ length rows.now }
     requires ends { AreEndsIn (length excess.old) rows.now }
     ensures same_length { length excess.new ≡ length excess.old }
-    ensures excess { (supply : ℕ → ℤ) → AreWrapped supply excess.old → IsWrappedExcess rows.now supply flow.now excess.new }
+    ensures excess { (supply : ℕ → ℤ) → AreWrapped supply excess.old
+        → IsWrappedExcess rows.now supply flow.now excess.new }
 {
     for k in 0..rows.len() {
         carry_over(excess, &rows[k], 0, flow[k]);

@@ -1,24 +1,13 @@
 //! What an accepted edit asks for, and the flow nearest to one.
 
-ghost use Rattle.std.specs.Prelude.{◌≡◌, ℕ, ◌≤ℤ◌, length, IsOk, Some};
-ghost use Rattle.dimacs_text.specs.Lawful.{IsLawfulRow, IsNode};
+ghost use Rattle.std.specs.Prelude.{◌≡◌, ◌≤ℤ◌, IsOk, Some};
 ghost use Rattle.dimacs_text.specs.declared.problem.ArcRow.{ArcRow};
 ghost use Rattle.network.specs.Edited.{arc_of, edited};
-ghost use Rattle.network.specs.Flow.{IsPotential, reduced_cost};
-ghost use Rattle.network.specs.Instance.{IsLawful, arc_at, at_node};
+ghost use Rattle.network.specs.Instance.{IsLawful, arc_at};
 ghost use Rattle.flow_solver.specs.Edit.{row_after_edit, IsNearest, IsAddEdit, IsOfAdd, IsOfArc, IsOfSupply, IsSupplyEdit, IsRowEdit};
 
 use dimacs_text::{ArcRow, Edit};
 use network::{Network, edits_keep_lawful};
-
-/// The reduced cost of an arc under the potentials of the nodes.
-pub fn reduced_cost(row: &ArcRow, potentials: &[i64]) -> i64
-    requires row { IsLawfulRow (length potentials.now) row.now }
-    requires range { (v : ℕ) → IsNode (length potentials.now) v → IsPotential (at_node potentials.now v) }
-    ensures { result ≡ reduced_cost (at_node potentials.now) row.now }
-{
-    row.cost + potentials[row.tail as usize - 1] - potentials[row.head as usize - 1]
-}
 
 /// The flow nearest to this one that the bounds of the arc and the sign of its reduced cost allow.
 pub fn nearest(row: &ArcRow, reduced: i64, flow: i64) -> i64

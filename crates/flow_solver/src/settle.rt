@@ -37,7 +37,8 @@ fn push_and_raise_all(
     ensures potentials_written { IsWritten potentials.old.table potentials.new.table }
     ensures ready { IsReady graph.now flow.new.entries potentials.new.table.entries excess.new }
     ensures greatest { AreGreatestIn graph.now.net flow.new.entries potentials.new.table.entries }
-    ensures pushed { ArePushes graph.now.rows result.count flow.old.entries excess.old flow.new.entries excess.new }
+    ensures pushed { ArePushes graph.now.rows result.count
+        flow.old.entries excess.old flow.new.entries excess.new }
     ensures parted { IsParted graph.now.rows flow.new.entries excess.new }
     ensures marked { IsTrue result.are_marked → IsSide Ahead graph.now.rows flow.new.entries excess.new scratch.new.marks }
     ensures scratch_in { length scratch.new.potentials ≡ length excess.new }
@@ -80,7 +81,8 @@ fn push_and_raise(
     ensures potentials_written { IsWritten potentials.old.table potentials.new.table }
     ensures ready { IsReady graph.now flow.new.entries potentials.new.table.entries excess.new }
     ensures greatest { AreGreatestIn graph.now.net flow.new.entries potentials.new.table.entries }
-    ensures pushed { ArePushes graph.now.rows result.count flow.old.entries excess.old flow.new.entries excess.new }
+    ensures pushed { ArePushes graph.now.rows result.count
+        flow.old.entries excess.old flow.new.entries excess.new }
     ensures parted { IsParted graph.now.rows flow.new.entries excess.new }
     ensures marked { IsTrue result.are_marked → IsSide Ahead graph.now.rows flow.new.entries excess.new scratch.new.marks }
     ensures scratch_in { length scratch.new.potentials ≡ length excess.new }
@@ -140,11 +142,13 @@ pub fn settle(
     ensures cut_written { IsWritten cut.old cut.new }
     ensures ready { IsReady graph.now flow.new.entries potentials.new.table.entries excess.new }
     ensures greatest { AreGreatestIn graph.now.net flow.new.entries potentials.new.table.entries }
-    ensures pushed { ArePushes graph.now.rows result flow.old.entries excess.old flow.new.entries excess.new }
+    ensures pushed { ArePushes graph.now.rows result
+        flow.old.entries excess.old flow.new.entries excess.new }
     ensures scratch_in { length scratch.new.potentials ≡ length excess.new }
     ensures held { IsHeldIn graph.now.rows flow.new.whole scratch.new.held }
     ensures step { KeepStep potentials.new scratch.new }
-    ensures cut { (supply : ℕ → ℤ) → IsExcess graph.now.rows supply flow.old.entries excess.old → IsChosenSet graph.now.rows supply excess.new cut.new.entries }
+    ensures cut { (supply : ℕ → ℤ) → IsExcess graph.now.rows supply flow.old.entries excess.old
+        → IsChosenSet graph.now.rows supply excess.new cut.new.entries }
 {
     let pushed = push_and_raise(graph, flow, potentials, excess, scratch);
     mark_cut(graph, flow, excess, scratch, pushed.are_marked, cut);

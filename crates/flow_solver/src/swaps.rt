@@ -17,9 +17,11 @@ pub fn exchange_node<T: Copy>(table: &mut Tracked<T>, id: u32, value: &mut T)
     requires node { (1 ≤ id) × (id < length table.old.entries) }
     ensures written { IsWritten table.old table.new }
     ensures entries { table.new.entries ≡ slice_set table.old.entries id value.old }
-    ensures table { drop 1 table.new.entries ≡ slice_set (drop 1 table.old.entries) (id - 1) value.old }
+    ensures table { drop 1 table.new.entries
+        ≡ slice_set (drop 1 table.old.entries) (id - 1) value.old }
     ensures value { value.new ≡ slice_index_or (drop 1 table.old.entries) (id - 1) value.old }
-    ensures no_node { (d : T) → slice_index_or table.new.entries 0 d ≡ slice_index_or table.old.entries 0 d }
+    ensures no_node { (d : T)
+        → slice_index_or table.new.entries 0 d ≡ slice_index_or table.old.entries 0 d }
 {
     table.exchange(id as usize, value);
 }

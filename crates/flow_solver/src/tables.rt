@@ -5,10 +5,10 @@ mod exchanges;
 
 ghost use Rattle.std.specs.Prelude.{◌≡◌, ◌≢◌, AllPairs, ◌≤◌, IfOk, IfSome, IsSome, None, Some, length, ◌+◌};
 ghost use Rattle.dimacs_text.specs.Lawful.{IsNode};
-ghost use Rattle.network.specs.Flow.{IsCertifiedFlow};
-ghost use Rattle.network.specs.Instance.{arc_at, at_node, numbered_flow, reduced, reduced_supply};
+ghost use Rattle.network.specs.Instance.{arc_at, reduced_supply};
 ghost use Rattle.tracked.specs.Touched.{NameChanges};
-ghost use Rattle.flow_solver.specs.Moment.{IsStart};
+ghost use Rattle.flow_solver.specs.Edit.{IsCertifiedMoment};
+ghost use Rattle.flow_solver.specs.Moment.{IsStart, arc_flows};
 ghost use Rattle.flow_solver.specs.Part.{return_count};
 
 use crate::balance::Balance;
@@ -66,8 +66,7 @@ impl Tables {
     pub fn new(alloc: Global, net: Network) -> Result<Tables, AllocError>
         ensures start { IfOk result (λ t. IsStart net t.moment) }
         ensures before { IfOk result (λ t. t.before ≡ None) }
-        ensures certified { IfOk result
-            (λ t. IsCertifiedFlow (reduced t.moment.instance) t.moment.flow (at_node t.moment.potentials)) }
+        ensures certified { IfOk result (λ t. IsCertifiedMoment t.moment) }
     {
         let log = Vec::with_capacity(alloc, GROUP_LIMIT)?;
         let graph = Graph::new(alloc, net)?;
@@ -95,7 +94,7 @@ impl Tables {
 
     /// The flow of each arc, in the order of the arcs.
     pub fn flow(&self) -> &[i64]
-        ensures value { result.now ≡ numbered_flow self.now.moment.instance.demand self.now.moment.flow }
+        ensures value { result.now ≡ arc_flows self.now.moment }
         ensures one_an_arc { length result.now ≡ length self.now.moment.instance.arcs }
     {
         &self.flow.entries()[self.graph.first_row()..]
@@ -129,7 +128,7 @@ impl Tables {
     /// The flow of each arc before the last change.
     pub fn old_flow(&self) -> &[i64]
         requires { IsSome self.now.before }
-        ensures { IfSome self.now.before (λ old. result.now ≡ numbered_flow old.instance.demand old.flow) }
+        ensures { IfSome self.now.before (λ old. result.now ≡ arc_flows old) }
     {
         let first = return_count(self.graph.network());
         &self.flow.before()[first..]
@@ -166,7 +165,9 @@ impl Tables {
     /// place k - 1, and place k where a return arc stands first. The flow of every arc not named is what it was.
     pub fn touched_flow(&self) -> &[u32]
         requires { IsSome self.now.before }
-        ensures named { IfSome self.now.before (λ old. NameChanges (return_count old.instance.demand) result.now (numbered_flow old.instance.demand old.flow) (numbered_flow self.now.moment.instance.demand self.now.moment.flow)) }
+        ensures named { IfSome self.now.before
+            (λ old. NameChanges (return_count old.instance.demand) result.now
+            (arc_flows old) (arc_flows self.now.moment)) }
         ensures apart { AllPairs ◌≢◌ result.now }
     {
         self.flow.places()
@@ -176,7 +177,8 @@ impl Tables {
     /// and is no node. The potential of every node not named is what it was.
     pub fn touched_potentials(&self) -> &[u32]
         requires { IsSome self.now.before }
-        ensures named { IfSome self.now.before (λ old. NameChanges 1 result.now old.potentials self.now.moment.potentials) }
+        ensures named { IfSome self.now.before
+            (λ old. NameChanges 1 result.now old.potentials self.now.moment.potentials) }
         ensures apart { AllPairs ◌≢◌ result.now }
     {
         self.potentials.table.places()
@@ -186,7 +188,8 @@ impl Tables {
     /// no node. The mark of every node not named is what it was.
     pub fn touched_cut(&self) -> &[u32]
         requires { IsSome self.now.before }
-        ensures named { IfSome self.now.before (λ old. NameChanges 1 result.now old.cut self.now.moment.cut) }
+        ensures named { IfSome self.now.before
+            (λ old. NameChanges 1 result.now old.cut self.now.moment.cut) }
         ensures apart { AllPairs ◌≢◌ result.now }
     {
         self.cut.table().places()
@@ -203,8 +206,10 @@ impl Tables {
     /// What a node had to send out before the last change, if it is a node.
     pub fn old_supply(&self, id: u32) -> Option<i64>
         requires { IsSome self.now.before }
-        ensures node { IfSome self.now.before (λ old. IsNode old.instance.nodes id → result ≡ Some (reduced_supply old.instance.demand id)) }
-        ensures no_node { IfSome self.now.before (λ old. ¬ IsNode old.instance.nodes id → result ≡ None) }
+        ensures node { IfSome self.now.before (λ old. IsNode old.instance.nodes id
+            → result ≡ Some (reduced_supply old.instance.demand id)) }
+        ensures no_node { IfSome self.now.before
+            (λ old. ¬ IsNode old.instance.nodes id → result ≡ None) }
     {
         supply_before(self.graph.network(), &self.before.log, id)
     }

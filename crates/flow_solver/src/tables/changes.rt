@@ -1,26 +1,25 @@
 //! Changes: an edit is made by exchanges, and then the flow is settled. What stood before can be restored.
 
-ghost use Rattle.std.specs.Prelude.{◌≡◌, ℕ, pos, ◌<◌, ◌≤◌, ◌<ℤ◌, ◌≤ℤ◌, ◌++◌, ◌∷◌, [], ◌↔◌, IsTrue, IsOk, IsSome, None, Ok, Some, length};
+ghost use Rattle.std.specs.Prelude.{◌≡◌, pos, ◌<◌, ◌≤◌, ◌<ℤ◌, ◌≤ℤ◌, ◌++◌, ◌∷◌, [], ◌↔◌, IsTrue, IsOk, IsSome, None, Ok, Some, length};
 ghost use Rattle.network.specs.Edited.{edited, edited_all};
 ghost use Rattle.flow_solver.specs.declared.part.Part.{Part};
 ghost use Rattle.dimacs_text.specs.Lawful.{IsLawfulRow};
-ghost use Rattle.network.specs.Flow.{reduced_cost, total_excess};
 ghost use Rattle.network.specs.Instance.{at_node, reduced};
-ghost use Rattle.augmentation.specs.Push.{Pushes};
 ghost use Rattle.flow_solver.specs.Answer.{IsAnswered};
-ghost use Rattle.flow_solver.specs.Edit.{CanMake, ChangeAllTo, ChangesTo, HasPotentials, IsCertifiedMoment, IsMadeIn, IsNearest, IsOfAdd, IsOfArc, IsOfSupply, KeepsResidualArcs, MakeAll, arc_flow, arc_reduced, arc_row};
-ghost use Rattle.flow_solver.specs.Moment.{IsWellFormed, kept_of};
+ghost use Rattle.flow_solver.specs.Edit.{CanMake, ChangeAllTo, ChangesTo, HasPotentials, IsCertifiedMoment, IsMadeIn, IsNearestBy, IsOfAdd, IsOfArc, IsOfSupply, KeepsResidualArcs, KeepsResidualArcsAt, MakeAll, PushesTo, arc_flow, arc_reduced, arc_row, left_in};
+ghost use Rattle.flow_solver.specs.Moment.{IsWellFormed, brought_back, kept_of};
 ghost use Rattle.flow_solver.specs.Part.{before_all, before_part, CanTakeBack, CanTakeBackAll, IsLogged, LeadsBack};
 
 use super::Tables;
 use crate::answer::judge;
 use crate::balance::{carry_back, cost_now};
-use crate::edit::{added_row, arc_of, edited_row, edited_supply, nearest, reduced_cost};
+use crate::edit::{added_row, arc_of, edited_row, edited_supply, nearest};
 use crate::part::{Part, part_of};
 use crate::settle::settle;
 use crate::verdict::Verdict;
 use augmentation::prepare;
 use dimacs_text::{ArcRow, Edit, GROUP_LIMIT};
+use network::reduced_by;
 
 impl Tables {
     /// Makes the flow a best one, or marks the cut that shows why no flow is legal, and gives the number of pushes.
@@ -28,8 +27,8 @@ impl Tables {
         requires { IsCertifiedMoment self.old.moment }
         ensures instance { self.new.moment.instance ≡ self.old.moment.instance }
         ensures answered { IsAnswered self.new.moment }
-        ensures pushes { Pushes (reduced self.old.moment.instance).arcs (reduced self.old.moment.instance).supply result self.old.moment.flow self.new.moment.flow }
-        ensures count { pos result ≤ℤ total_excess (reduced self.old.moment.instance) self.old.moment.flow }
+        ensures pushes { PushesTo result self.old.moment self.new.moment }
+        ensures count { pos result ≤ℤ left_in self.old.moment }
         ensures before { self.new.before ≡ None }
         ensures kept { self.new.kept ≡ self.old.kept }
     {
@@ -72,7 +71,8 @@ impl Tables {
         requires few { length edits.now ≤ GROUP_LIMIT }
         requires certified { IsCertifiedMoment self.old.moment }
         requires accepted { IsOk (edited_all self.old.moment.instance edits.now) }
-        ensures instance { edited_all self.old.moment.instance edits.now ≡ Ok self.new.moment.instance }
+        ensures instance { edited_all self.old.moment.instance edits.now
+            ≡ Ok self.new.moment.instance }
         ensures answered { IsAnswered self.new.moment }
         ensures changed { ChangeAllTo edits.now self.old.moment self.new.moment result }
         ensures before { self.new.before ≡ Some self.old.moment }
@@ -132,7 +132,8 @@ impl Tables {
     fn keeps_greatest(&self, k: u32, row: &ArcRow, flow: i64) -> bool
         requires arc { (1 ≤ k) × (k ≤ length self.now.moment.instance.arcs) }
         requires range { HasPotentials self.now.moment }
-        ensures { IsTrue result → arc_reduced self.now.moment k ≡ pos 0 → KeepsResidualArcs (arc_row self.now.moment k) (arc_flow self.now.moment k) row.now flow }
+        ensures { IsTrue result → arc_reduced self.now.moment k ≡ pos 0
+            → KeepsResidualArcsAt self.now.moment k row.now flow }
     {
         !self.is_tight(k) || self.keeps_residual_arcs_along(k, row, flow)
     }
@@ -140,7 +141,7 @@ impl Tables {
     /// Whether an arc keeps its residual arcs once it has this row and this flow.
     fn keeps_residual_arcs_along(&self, k: u32, row: &ArcRow, flow: i64) -> bool
         requires arc { (1 ≤ k) × (k ≤ length self.now.moment.instance.arcs) }
-        ensures { IsTrue result ↔ KeepsResidualArcs (arc_row self.now.moment k) (arc_flow self.now.moment k) row.now flow }
+        ensures { IsTrue result ↔ KeepsResidualArcsAt self.now.moment k row.now flow }
     {
         keeps_residual_arcs(&self.row_of(k), self.flow_of(k), row, flow)
     }
@@ -151,7 +152,7 @@ impl Tables {
         requires range { HasPotentials self.now.moment }
         ensures { IsTrue result ↔ (arc_reduced self.now.moment k ≡ pos 0) }
     {
-        reduced_cost(&self.row_of(k), self.potentials()) == 0
+        reduced_by(&self.row_of(k), self.potentials()) == 0
     }
 
     /// The arc with this number.
@@ -175,9 +176,9 @@ impl Tables {
     fn nearest_flow(&self, row: &ArcRow, flow: i64) -> i64
         requires row { IsLawfulRow self.now.moment.instance.nodes row.now }
         requires range { HasPotentials self.now.moment }
-        ensures { IsNearest row.now (reduced_cost (at_node self.now.moment.potentials) row.now) flow result }
+        ensures { IsNearestBy (at_node self.now.moment.potentials) row.now flow result }
     {
-        nearest(row, reduced_cost(row, self.potentials()), flow)
+        nearest(row, reduced_by(row, self.potentials()), flow)
     }
 
     /// Makes an accepted edit of a supply.
@@ -221,7 +222,8 @@ impl Tables {
     /// Takes the last part off the log, if one is there.
     fn pop_part(&mut self) -> Option<Part>
         ensures moment { self.new.moment ≡ self.old.moment }
-        ensures some { (part : Part) → result ≡ Some part → self.old.kept ≡ record self.new.kept { log = self.new.kept.log ++ part ∷ [] } }
+        ensures some { (part : Part) → result ≡ Some part
+            → self.old.kept ≡ record self.new.kept { log = self.new.kept.log ++ part ∷ [] } }
         ensures none { result ≡ None → (self.old.kept.log ≡ []) × (self.new.kept ≡ self.old.kept) }
     {
         self.before.verdict = None;
@@ -231,7 +233,8 @@ impl Tables {
     /// Takes a change of the instance back.
     fn take_back(&mut self, part: Part)
         requires can { CanTakeBack part self.old.moment.instance }
-        requires kept { length self.old.kept.flow ≤ length (reduced (before_part part self.old.moment.instance)).arcs }
+        requires kept { length self.old.kept.flow
+            ≤ length (reduced (before_part part self.old.moment.instance)).arcs }
         ensures instance { self.new.moment.instance ≡ before_part part self.old.moment.instance }
         ensures kept { self.new.kept ≡ self.old.kept }
     {
@@ -291,7 +294,7 @@ impl Tables {
     fn bring_back(&mut self, verdict: Verdict)
         requires { length self.old.kept.flow ≡ length (reduced self.old.moment.instance).arcs }
         ensures before { self.new.before ≡ None }
-        ensures moment { self.new.moment ≡ record self.old.moment { flow = self.old.kept.flow; potentials = self.old.kept.potentials; verdict = verdict; cut = self.old.kept.cut } }
+        ensures moment { self.new.moment ≡ brought_back self.old.moment self.old.kept verdict }
     {
         self.before.verdict = None;
         self.potentials.greatest = false;
@@ -330,7 +333,8 @@ fn make_all(tables: &mut Tables, edits: &[Edit])
     requires accepted { IsOk (edited_all tables.old.moment.instance edits.now) }
     ensures made { MakeAll edits.now tables.old.moment tables.new.moment }
     ensures certified { IsCertifiedMoment tables.new.moment }
-    ensures back { LeadsBack tables.new.kept.log tables.old.moment.instance tables.new.moment.instance }
+    ensures back { LeadsBack tables.new.kept.log
+        tables.old.moment.instance tables.new.moment.instance }
     ensures kept { tables.new.kept ≡ record tables.old.kept { log = tables.new.kept.log } }
 {
     for edit in edits {
@@ -342,8 +346,10 @@ fn make_all(tables: &mut Tables, edits: &[Edit])
 /// Takes back all that is logged, the last first.
 fn take_back_all(tables: &mut Tables)
     requires can { CanTakeBackAll tables.old.kept.log tables.old.moment.instance }
-    requires kept { length tables.old.kept.flow ≡ length (reduced (before_all tables.old.kept.log tables.old.moment.instance)).arcs }
-    ensures instance { tables.new.moment.instance ≡ before_all tables.old.kept.log tables.old.moment.instance }
+    requires kept { length tables.old.kept.flow
+        ≡ length (reduced (before_all tables.old.kept.log tables.old.moment.instance)).arcs }
+    ensures instance { tables.new.moment.instance
+        ≡ before_all tables.old.kept.log tables.old.moment.instance }
     ensures kept { tables.new.kept ≡ record tables.old.kept { log = [] } }
 {
     while let Some(part) = tables.pop_part() {

@@ -1,12 +1,13 @@
 //! Exchanges: what stands at one place goes, and something else comes. Each forgets what stood before the last change.
 
-ghost use Rattle.std.specs.Prelude.{◌≡◌, ◌-◌, ◌<◌, ◌≤◌, ◌++◌, ◌∷◌, [], None, length, slice_index_or, slice_set};
+ghost use Rattle.std.specs.Prelude.{◌≡◌, ◌-◌, ◌<◌, ◌≤◌, ◌++◌, ◌∷◌, [], None, length, slice_index_or};
 ghost use Rattle.dimacs_text.specs.Lawful.{IsNode, IsWithin};
 ghost use Rattle.dimacs_text.specs.declared.problem.TheConstants.{SUPPLY_LIMIT};
 ghost use Rattle.dimacs_text.specs.declared.problem.Kind.TheVariants.{Min};
 ghost use Rattle.network.specs.Flow.{IsPotential};
-ghost use Rattle.network.specs.Instance.{kind_of, reduced, with_supply};
-ghost use Rattle.flow_solver.specs.TablesView.{IsFlowValue, IsRowOf, HasEnds, flow_index, supplies_in};
+ghost use Rattle.network.specs.Edited.{with_last};
+ghost use Rattle.network.specs.Instance.{kind_of, reduced};
+ghost use Rattle.flow_solver.specs.TablesView.{IsFlowValue, IsRowOf, HasEnds, flow_or, supplies_in, with_flow_at, with_last_arc, with_mark_at, with_potential_at, with_row_at, with_supply_at};
 ghost use Rattle.flow_solver.specs.Moment.{ReturnMatches, VerdictFits, with_verdict};
 
 use super::Tables;
@@ -21,8 +22,8 @@ impl Tables {
     pub fn swap_flow(&mut self, k: u32, value: &mut i64)
         requires there { (1 ≤ k) × (k ≤ length self.old.moment.instance.arcs) }
         requires flow { IsFlowValue value.old }
-        ensures moment { self.new.moment ≡ record self.old.moment { flow = slice_set self.old.moment.flow (flow_index self.old.moment.instance.demand k) value.old } }
-        ensures value { value.new ≡ slice_index_or self.old.moment.flow (flow_index self.old.moment.instance.demand k) value.old }
+        ensures moment { self.new.moment ≡ with_flow_at self.old.moment k value.old }
+        ensures value { value.new ≡ flow_or self.old.moment k value.old }
         ensures kept { self.new.kept ≡ self.old.kept }
         ensures before { self.new.before ≡ None }
     {
@@ -42,7 +43,7 @@ impl Tables {
     pub fn swap_potential(&mut self, id: u32, value: &mut i64)
         requires node { IsNode self.old.moment.instance.nodes id }
         requires potential { IsPotential value.old }
-        ensures moment { self.new.moment ≡ record self.old.moment { potentials = slice_set self.old.moment.potentials (id - 1) value.old } }
+        ensures moment { self.new.moment ≡ with_potential_at self.old.moment id value.old }
         ensures value { value.new ≡ slice_index_or self.old.moment.potentials (id - 1) value.old }
         ensures kept { self.new.kept ≡ self.old.kept }
         ensures before { self.new.before ≡ None }
@@ -56,7 +57,7 @@ impl Tables {
     /// Exchanges the mark of a node.
     pub fn swap_mark(&mut self, id: u32, value: &mut bool)
         requires { IsNode self.old.moment.instance.nodes id }
-        ensures moment { self.new.moment ≡ record self.old.moment { cut = slice_set self.old.moment.cut (id - 1) value.old } }
+        ensures moment { self.new.moment ≡ with_mark_at self.old.moment id value.old }
         ensures value { value.new ≡ slice_index_or self.old.moment.cut (id - 1) value.old }
         ensures kept { self.new.kept ≡ self.old.kept }
         ensures before { self.new.before ≡ None }
@@ -92,7 +93,7 @@ impl Tables {
     pub fn swap_row(&mut self, k: u32, row: &mut ArcRow)
         requires ends { HasEnds self.old.moment.instance.arcs k row.old }
         requires row { IsRowOf self.old.moment.instance row.old }
-        ensures moment { self.new.moment ≡ record self.old.moment { instance = record self.old.moment.instance { arcs = slice_set self.old.moment.instance.arcs (k - 1) row.old } } }
+        ensures moment { self.new.moment ≡ with_row_at self.old.moment k row.old }
         ensures row { row.new ≡ slice_index_or self.old.moment.instance.arcs (k - 1) row.old }
         ensures kept { self.new.kept ≡ self.old.kept }
         ensures before { self.new.before ≡ None }
@@ -117,8 +118,9 @@ impl Tables {
         requires kind { kind_of self.old.moment.instance.demand ≡ Min }
         requires node { IsNode self.old.moment.instance.nodes id }
         requires limit { IsWithin SUPPLY_LIMIT value.old }
-        ensures moment { self.new.moment ≡ record self.old.moment { instance = record self.old.moment.instance { demand = with_supply self.old.moment.instance.demand id value.old } } }
-        ensures value { value.new ≡ slice_index_or (supplies_in self.old.moment.instance.demand) (id - 1) value.old }
+        ensures moment { self.new.moment ≡ with_supply_at self.old.moment id value.old }
+        ensures value { value.new
+            ≡ slice_index_or (supplies_in self.old.moment.instance.demand) (id - 1) value.old }
         ensures kept { self.new.kept ≡ self.old.kept }
         ensures before { self.new.before ≡ None }
     {
@@ -132,10 +134,12 @@ impl Tables {
     /// Takes the last arc off, and gives its row and its flow.
     pub fn drop_last(&mut self) -> (ArcRow, i64)
         requires { 0 < length self.old.moment.instance.arcs }
-        ensures instance { self.old.moment.instance ≡ record self.new.moment.instance { arcs = self.new.moment.instance.arcs ++ result.0 ∷ [] } }
+        ensures instance { self.old.moment.instance ≡ with_last self.new.moment.instance result.0 }
         ensures flow { self.old.moment.flow ≡ self.new.moment.flow ++ result.1 ∷ [] }
-        ensures rest { self.new.moment ≡ record self.old.moment { instance = self.new.moment.instance; flow = self.new.moment.flow } }
-        ensures kept { length self.old.kept.flow ≤ length (reduced self.new.moment.instance).arcs → self.new.kept ≡ self.old.kept }
+        ensures rest { self.new.moment ≡ record self.old.moment
+            { instance = self.new.moment.instance; flow = self.new.moment.flow } }
+        ensures kept { length self.old.kept.flow ≤ length (reduced self.new.moment.instance).arcs
+            → self.new.kept ≡ self.old.kept }
         ensures before { self.new.before ≡ None }
     {
         self.before.verdict = None;
@@ -156,10 +160,7 @@ impl Tables {
         requires room { length self.old.moment.instance.arcs < self.old.moment.instance.room }
         requires row { IsRowOf self.old.moment.instance row }
         requires flow { IsFlowValue flow }
-        ensures moment { self.new.moment ≡ record self.old.moment {
-          instance = record self.old.moment.instance { arcs = self.old.moment.instance.arcs ++ row ∷ [] };
-          flow = self.old.moment.flow ++ flow ∷ [];
-        } }
+        ensures moment { self.new.moment ≡ with_last_arc self.old.moment row flow }
         ensures kept { self.new.kept ≡ self.old.kept }
         ensures before { self.new.before ≡ None }
     {
