@@ -30,8 +30,8 @@ use Rattle.flow_solver.specs.TablesView.{IsFlowValue}
 use Rattle.flow_solver.specs.Moment.{Moment, IsReturnVerdict, ReturnMatches, ReturnMatchesBy, VerdictFits, returned, with_return}
 use Rattle.flow_solver.proofs.BalanceLemmas.{IsExactExcess, excess_exact}
 use Rattle.flow_solver.proofs.ExcessLemmas.{below_part}
-use Rattle.flow_solver.proofs.FlowLaws.{AgreesAt, bounds_from, certified_same, certified_flow}
-use Rattle.flow_solver.proofs.CutLaws.{IsMarkedBy, entering_is, leaving_is, least_surplus, least_shortfall}
+use Rattle.flow_solver.proofs.FlowLaws.{bounds_from, certified_same, certified_flow}
+use Rattle.flow_solver.proofs.CutLaws.{entering_is, leaving_is, least_surplus, least_shortfall}
 use Rattle.flow_solver.proofs.PushLaws.{legal_flow, left_is}
 use Rattle.flow_solver.proofs.InstanceLemmas.{caps_of_instance, few_entries, range_of_labels, supplies_of_instance}
 
@@ -40,10 +40,10 @@ use Rattle.flow_solver.proofs.InstanceLemmas.{caps_of_instance, few_entries, ran
 pub node_entry : {A : Type 0} (xs : List A) (n v : ℕ) (d : A) → (1 ≤ v) × (v ≤ n) → slice_index_or (drop 1 xs) (v - 1) d ≡ slice_index_or xs v d
 node_entry xs n v d node = (let e : 1 + (v - 1) ≡ v = omega (arith, node.0) in get_or_after_one xs (v - 1) d ∙ ap (λ (w : ℕ). slice_index_or xs w d) e)
 
-pub agrees_at : (n : ℕ) (p : List ℤ) → AgreesAt n (at_node (drop 1 p)) p
+pub agrees_at : (n : ℕ) (p : List ℤ) (v : ℕ) → (1 ≤ v) × (v ≤ n) → at_node (drop 1 p) v ≡ number_at p v
 agrees_at n p v node = node_entry p n v (pos 0) node
 
-pub marked_by : (n : ℕ) (set : List Bool) → IsMarkedBy n (is_marked (drop 1 set)) set
+pub marked_by : (n : ℕ) (set : List Bool) (v : ℕ) → (1 ≤ v) × (v ≤ n) → is_marked (drop 1 set) v ≡ in_set set v
 marked_by n set v node = node_entry set n v false node
 
 none_marked : (set : List Bool) → ((v : ℕ) → in_set set v ≡ false) → (v : ℕ) → is_marked (drop 1 set) v ≡ false
@@ -97,7 +97,7 @@ module _ (I : Instance) (y p e : List ℤ) (set : List Bool) (end : IsEnd I y p 
 
   pub end_certified : IsCertifiedFlow (reduced I) y (at_node (drop 1 p))
   end_certified =
-      certified_flow (reduced I) y p (at_node (drop 1 p)) (reduced_ends I end.lawful) end.certified (agrees_at I.nodes p)
+      certified_flow (reduced I) y p (at_node (drop 1 p)) (reduced_ends I end.lawful) (agrees_at I.nodes p) end.certified
       (λ v node. range_of_labels (length p) p end.potentials_in v)
 
   cut_of_excess : 0 < left e → IsLeastGreatestSurplus (reduced I) (is_marked (drop 1 set)) (pos (left e))

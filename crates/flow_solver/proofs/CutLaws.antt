@@ -39,21 +39,21 @@ crossing_same : (n : ℕ) (f g f' g' : ℕ → Bool) (h : ArcRow → ℤ) (arcs 
 crossing_same n f g f' g' h [] ends tails heads = refl
 crossing_same n f g f' g' h (a ∷ arcs) ends tails heads = rw (tails a.tail ends.0.0, heads a.head ends.0.1) (omega (arith, ints, crossing_same n f g f' g' h arcs ends.1 tails heads))
 
-module _ (n : ℕ) (f g : ℕ → Bool) (same : (v : ℕ) → (1 ≤ v) × (v ≤ n) → f v ≡ g v) where
-  out_same : (h : ArcRow → ℤ) (arcs : List ArcRow) → AllEndsIn n arcs → arcs_sum (λ arc. cond (crosses f (outside f) arc) (h arc) (pos 0)) arcs ≡ arcs_sum (λ arc. cond (crosses g (outside g) arc) (h arc) (pos 0)) arcs
-  out_same h arcs ends = crossing_same n f (outside f) g (outside g) h arcs ends same (λ v node. ap not (same v node))
+module _ (I : MinCost) (f g : ℕ → Bool) (ends : AllEndsAreNodes I) (same : (v : ℕ) → IsNode I v → f v ≡ g v) where
+  out_same : (h : ArcRow → ℤ) → arcs_sum (λ arc. cond (crosses f (outside f) arc) (h arc) (pos 0)) I.arcs ≡ arcs_sum (λ arc. cond (crosses g (outside g) arc) (h arc) (pos 0)) I.arcs
+  out_same h = crossing_same I.nodes f (outside f) g (outside g) h I.arcs ends same (λ v node. ap not (same v node))
 
-  into_same : (h : ArcRow → ℤ) (arcs : List ArcRow) → AllEndsIn n arcs → arcs_sum (λ arc. cond (crosses (outside f) f arc) (h arc) (pos 0)) arcs ≡ arcs_sum (λ arc. cond (crosses (outside g) g arc) (h arc) (pos 0)) arcs
-  into_same h arcs ends = crossing_same n (outside f) f (outside g) g h arcs ends (λ v node. ap not (same v node)) same
+  into_same : (h : ArcRow → ℤ) → arcs_sum (λ arc. cond (crosses (outside f) f arc) (h arc) (pos 0)) I.arcs ≡ arcs_sum (λ arc. cond (crosses (outside g) g arc) (h arc) (pos 0)) I.arcs
+  into_same h = crossing_same I.nodes (outside f) f (outside g) g h I.arcs ends (λ v node. ap not (same v node)) same
 
-  supply_same : (supply : ℕ → ℤ) → nodes_sum n (λ v. cond (f v) (supply v) (pos 0)) ≡ nodes_sum n (λ v. cond (g v) (supply v) (pos 0))
-  supply_same supply = nodes_sum-same n (λ v. cond (f v) (supply v) (pos 0)) (λ v. cond (g v) (supply v) (pos 0)) (λ v node. ap (λ (b : Bool). cond b (supply v) (pos 0)) (same v node))
+  supply_same : supply_of I f ≡ supply_of I g
+  supply_same = nodes_sum-same I.nodes (λ v. cond (f v) (I.supply v) (pos 0)) (λ v. cond (g v) (I.supply v) (pos 0)) (λ v node. ap (λ (b : Bool). cond b (I.supply v) (pos 0)) (same v node))
 
-pub surplus_same : (I : MinCost) (f g : ℕ → Bool) → AllEndsAreNodes I → ((v : ℕ) → IsNode I v → f v ≡ g v) → surplus_of I f ≡ surplus_of I g
-surplus_same I f g ends same = omega (arith, ints, supply_same I.nodes f g same I.supply, out_same I.nodes f g same (λ a. a.cap) I.arcs ends, into_same I.nodes f g same (λ a. a.low) I.arcs ends)
+  pub surplus_same : surplus_of I f ≡ surplus_of I g
+  surplus_same = omega (arith, ints, supply_same, out_same (λ a. a.cap), into_same (λ a. a.low))
 
-pub shortfall_same : (I : MinCost) (f g : ℕ → Bool) → AllEndsAreNodes I → ((v : ℕ) → IsNode I v → f v ≡ g v) → shortfall_of I f ≡ shortfall_of I g
-shortfall_same I f g ends same = omega (arith, ints, supply_same I.nodes f g same I.supply, out_same I.nodes f g same (λ a. a.low) I.arcs ends, into_same I.nodes f g same (λ a. a.cap) I.arcs ends)
+  pub shortfall_same : shortfall_of I f ≡ shortfall_of I g
+  shortfall_same = omega (arith, ints, supply_same, out_same (λ a. a.low), into_same (λ a. a.cap))
 
 -- ---- the least set of the greatest value
 
@@ -67,10 +67,6 @@ marked_at n set v node = table_at (suc n) set v false (omega (arith, node.1))
 length-marks : (n : ℕ) (set : ℕ → Bool) → length (marks_of n set) ≡ suc n
 length-marks n set = length-table (suc n) set
 
--- the set `cut` holds the marked nodes
-abbrev pub IsMarkedBy : ℕ → (ℕ → Bool) → List Bool → Type 0
-IsMarkedBy n cut set = (v : ℕ) → (1 ≤ v) × (v ≤ n) → cut v ≡ in_set set v
-
 -- a value of sets, of tables of marks and of functions alike, that sees nodes alone
 module _ (I : MinCost) (value : List Bool → ℤ) (value_of : (ℕ → Bool) → ℤ)
     (is : (set : List Bool) → length set ≡ suc I.nodes → value set ≡ value_of (in_set set))
@@ -79,7 +75,7 @@ module _ (I : MinCost) (value : List Bool → ℤ) (value_of : (ℕ → Bool) �
     value_as : (other : ℕ → Bool) → value_of other ≡ value (marks_of I.nodes other)
     value_as other = same other (in_set (marks_of I.nodes other)) (λ v node. sym (marked_at I.nodes other v node)) ∙ sym (is (marks_of I.nodes other) (length-marks I.nodes other))
 
-    least_value : (set : List Bool) (cut : ℕ → Bool) (d : ℤ) → length set ≡ suc I.nodes → IsMarkedBy I.nodes cut set → IsLeastSet value set d
+    least_value : (set : List Bool) (cut : ℕ → Bool) (d : ℤ) → length set ≡ suc I.nodes → ((v : ℕ) → IsNode I v → cut v ≡ in_set set v) → IsLeastSet value set d
         → (value_of cut ≡ d) × ((other : ℕ → Bool) → value_of other ≤ℤ d) × ((other : ℕ → Bool) → value_of other ≡ d → (v : ℕ) → IsNode I v → cut v ≡ true → other v ≡ true)
     least_value set cut d sized marks least = (
       same cut (in_set set) marks ∙ sym (is set sized) ∙ least.value_is,
@@ -87,12 +83,12 @@ module _ (I : MinCost) (value : List Bool → ℤ) (value_of : (ℕ → Bool) �
       λ other full v node inside. sym (marked_at I.nodes other v node) ∙ least.smallest (marks_of I.nodes other) (length-marks I.nodes other ∙ sym sized) (sym (value_as other) ∙ full) v (sym (marks v node) ∙ inside),
     )
 
-pub least_surplus : (I : MinCost) (set : List Bool) (cut : ℕ → Bool) (d : ℤ) → AllEndsAreNodes I → length set ≡ suc I.nodes → IsMarkedBy I.nodes cut set → IsLeastSet (surplus I.arcs (held I.nodes I.supply)) set d → IsLeastGreatestSurplus I cut d
+pub least_surplus : (I : MinCost) (set : List Bool) (cut : ℕ → Bool) (d : ℤ) → AllEndsAreNodes I → length set ≡ suc I.nodes → ((v : ℕ) → IsNode I v → cut v ≡ in_set set v) → IsLeastSet (surplus I.arcs (held I.nodes I.supply)) set d → IsLeastGreatestSurplus I cut d
 least_surplus I set cut d ends sized marks least =
     let is = least_value I (surplus I.arcs (held I.nodes I.supply)) (surplus_of I) (surplus_is I) (λ f g. surplus_same I f g ends) set cut d sized marks least in
     record { value = is.0; greatest = is.1; least = is.2 }
 
-pub least_shortfall : (I : MinCost) (set : List Bool) (cut : ℕ → Bool) (d : ℤ) → AllEndsAreNodes I → length set ≡ suc I.nodes → IsMarkedBy I.nodes cut set → IsLeastSet (shortfall I.arcs (held I.nodes I.supply)) set d → IsLeastGreatestShortfall I cut d
+pub least_shortfall : (I : MinCost) (set : List Bool) (cut : ℕ → Bool) (d : ℤ) → AllEndsAreNodes I → length set ≡ suc I.nodes → ((v : ℕ) → IsNode I v → cut v ≡ in_set set v) → IsLeastSet (shortfall I.arcs (held I.nodes I.supply)) set d → IsLeastGreatestShortfall I cut d
 least_shortfall I set cut d ends sized marks least =
     let is = least_value I (shortfall I.arcs (held I.nodes I.supply)) (shortfall_of I) (shortfall_is I) (λ f g. shortfall_same I f g ends) set cut d sized marks least in
     record { value = is.0; greatest = is.1; least = is.2 }

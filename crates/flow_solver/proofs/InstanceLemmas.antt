@@ -24,26 +24,10 @@ use Rattle.flow_solver.proofs.FlowLaws.{bounds_length, bounds_at, none_below_of}
 
 -- an arc of the instance is a row of the tables
 lawful_row : (n : ℕ) (a : ArcRow) → IsLawfulRow n a → IsRow (n + 1) a
-lawful_row n a keeps = record {
-  tail_in = omega (arith, keeps.tail.1);
-  head_in = omega (arith, keeps.head.1);
-  low_at_least_0 = keeps.low;
-  low_at_most_cap = keeps.cap;
-  cap_in = omega (arith, ints, keeps.limit);
-  cost_low = omega (arith, ints, keeps.cost.0, keeps.cost.1);
-  cost_high = omega (arith, ints, keeps.cost.0, keeps.cost.1);
-}
+lawful_row n a keeps = record { tail_in = omega (arith, keeps.tail.1); head_in = omega (arith, keeps.head.1); low_at_least_0 = keeps.low; low_at_most_cap = keeps.cap; cap_in = omega (arith, ints, keeps.limit); cost_low = omega (arith, ints, keeps.cost.0); cost_high = omega (arith, ints, keeps.cost.1) }
 
 return_row : (n source sink : ℕ) → DemandFits n (Terminals source sink) → IsRow (n + 1) (return_arc source sink)
-return_row n source sink fits = record {
-  tail_in = omega (arith, fits.1.1);
-  head_in = omega (arith, fits.0.1);
-  low_at_least_0 = omega (arith, ints);
-  low_at_most_cap = omega (arith, ints);
-  cap_in = omega (arith, ints);
-  cost_low = omega (arith, ints);
-  cost_high = omega (arith, ints);
-}
+return_row n source sink fits = record { tail_in = omega (arith, fits.1.1); head_in = omega (arith, fits.0.1); low_at_least_0 = omega (arith, ints); low_at_most_cap = omega (arith, ints); cap_in = omega (arith, ints); cost_low = omega (arith, ints); cost_high = omega (arith, ints) }
 
 reduced_rows : (n : ℕ) (D : Demand) (arcs : List ArcRow) → DemandFits n D → All (λ arc. IsLawfulRow n arc × ArcFits D arc) arcs → (k : ℕ) → k < length (reduced_arcs D arcs) → IsRow (n + 1) (row_at (reduced_arcs D arcs) k)
 reduced_rows n (Terminals source sink) arcs fits keeps zero lt = return_row n source sink fits
@@ -122,7 +106,7 @@ certified_of I x p lawful sized idle certified =
     record {
       flow = rw sized (flow_of_instance I x lawful certified.bounds);
       potentials = record { sized = refl; at_most_0 = potentials.at_most_0; at_least = λ v. omega (arith, ints, potentials.at_least v) };
-      none_below = none_below_of (reduced I) x (number_at p) (number_at p) (reduced_ends I lawful) certified (λ v node. refl);
+      none_below = none_below_of (reduced I) x (number_at p) (number_at p) (reduced_ends I lawful) (λ v node. refl) certified;
     }
 
 -- shortest labels keep the range of potentials
@@ -138,21 +122,16 @@ start_within n a row = (let order = row.low_at_most_cap in (grind (arith, ints),
 start_sign : (q : ℕ → ℤ) (a : ArcRow) → ((v : ℕ) → q v ≡ pos 0) → FollowsSign q a (start a)
 start_sign q a zero_at = (let tail = zero_at a.tail in let head = zero_at a.head in record { dear = λ dear. grind (arith, ints); cheap = λ cheap. grind (arith, ints) })
 
-start_bounds : (n : ℕ) (arcs : List ArcRow) → ((k : ℕ) → k < length arcs → IsRow (n + 1) (row_at arcs k)) → AllWithinBounds arcs (map start arcs)
-start_bounds n [] rows = tt
-start_bounds n (a ∷ arcs) rows =
-    (start_within n a (rows 0 (omega arith)), start_bounds n arcs (λ k lt. rows (suc k) (omega arith)))
-
-start_signs : (q : ℕ → ℤ) (arcs : List ArcRow) → ((v : ℕ) → q v ≡ pos 0) → AllZip (FollowsSign q) arcs (map start arcs)
-start_signs q [] zero_at = tt
-start_signs q (a ∷ arcs) zero_at = (start_sign q a zero_at, start_signs q arcs zero_at)
+start_keeps : (n : ℕ) (q : ℕ → ℤ) (arcs : List ArcRow) → ((k : ℕ) → k < length arcs → IsRow (n + 1) (row_at arcs k)) → ((v : ℕ) → q v ≡ pos 0) → AllWithinBounds arcs (map start arcs) × AllZip (FollowsSign q) arcs (map start arcs)
+start_keeps n q [] rows zero_at = (tt, tt)
+start_keeps n q (a ∷ arcs) rows zero_at =
+    let rest = start_keeps n q arcs (λ k lt. rows (suc k) (omega arith)) zero_at in
+    ((start_within n a (rows 0 (omega arith)), rest.0), (start_sign q a zero_at, rest.1))
 
 pub start_certified : (I : Instance) (q : ℕ → ℤ) → IsLawful I → ((v : ℕ) → q v ≡ pos 0) → IsCertifiedFlow (reduced I) (map start (reduced I).arcs) q
-start_certified I q lawful zero_at = record {
-  bounds = start_bounds I.nodes (reduced I).arcs (rows_of_instance I lawful);
-  signs = start_signs q (reduced I).arcs zero_at;
-  range = λ v node. (omega (arith, ints, zero_at v), omega (arith, ints, zero_at v));
-}
+start_certified I q lawful zero_at =
+    let keeps = start_keeps I.nodes q (reduced I).arcs (rows_of_instance I lawful) zero_at in
+    record { bounds = keeps.0; signs = keeps.1; range = λ v node. (omega (arith, ints, zero_at v), omega (arith, ints, zero_at v)) }
 
 pub zero_entries : (n v : ℕ) → at_node (drop 1 (replicate n (pos 0))) v ≡ pos 0
 zero_entries zero v = refl

@@ -1,5 +1,4 @@
 pub mod ExcessLemmas
-pub mod SignLemmas
 pub mod FlowLaws
 pub mod CutLaws
 pub mod PushLaws

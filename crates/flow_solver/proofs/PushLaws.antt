@@ -27,18 +27,7 @@ module _ (n : ℕ) (arcs : List ArcRow) (supply : ℕ → ℤ) (ends : AllEndsIn
   push_of x y push =
       let source : held n supply push.source ≡ supply push.source = held_some x push.source (λ e. omega (arith, ints, e, push.at_least_1, push.in_excess)) in
       let target : held n supply push.target ≡ supply push.target = held_some x push.target (λ e. omega (arith, ints, e, push.at_least_1, push.in_deficit)) in
-      record {
-        amount = push.amount;
-        hops = push.hops;
-        source = push.source;
-        target = push.target;
-        at_least_1 = push.at_least_1;
-        path = push.path;
-        simple = push.simple;
-        shift = push.shift;
-        in_excess = omega (arith, ints, push.in_excess, source);
-        in_deficit = omega (arith, ints, push.in_deficit, target);
-      }
+      record { amount = push.amount; hops = push.hops; source = push.source; target = push.target; at_least_1 = push.at_least_1; path = push.path; simple = push.simple; shift = push.shift; in_excess = omega (arith, ints, push.in_excess, source); in_deficit = omega (arith, ints, push.in_deficit, target) }
 
   pub pushes_of : (k : ℕ) (x y : List ℤ) → Pushes arcs (held n supply) k x y → Pushes arcs supply k x y
   pushes_of zero x y same = same

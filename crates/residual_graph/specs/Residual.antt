@@ -108,9 +108,3 @@ abbrev pub AreGreatest : List ArcRow → List ℤ → List ℤ → Type 0
 AreGreatest arcs x p =
     (q : ℕ → ℤ) → NoneBelowBy arcs x q → ((v : ℕ) → q v ≤ℤ pos 0) →
     (v : ℕ) → q v ≤ℤ number_at p v
-
--- an arc of positive reduced cost carries its low, and one of negative reduced cost its cap
-abbrev pub KeepsSigns : List ArcRow → List ℤ → List ℤ → Type 0
-KeepsSigns arcs x p =
-    (k : ℕ) → k < length arcs →
-    (pos 0 <ℤ ((cost_at arcs k Forward +ℤ number_at p (start_at arcs k Forward)) -ℤ number_at p (end_at arcs k Forward)) → number_at x k ≡ (row_at arcs k).low) × (((cost_at arcs k Forward +ℤ number_at p (start_at arcs k Forward)) -ℤ number_at p (end_at arcs k Forward)) <ℤ pos 0 → number_at x k ≡ (row_at arcs k).cap)
