@@ -6,7 +6,7 @@ ghost use Rattle.augmentation.specs.Certificate.{AreCertifying, AreInRange, AreW
 
 use dimacs_text::ArcRow;
 use residual_graph::{Graph, Way};
-use shortest_paths::reduced_cost;
+use shortest_paths::reduced_along;
 
 /// The least potential with which a run of pushes begins.
 pub(crate) const FLOOR: i64 = -50_000_000_000_000_000;
@@ -33,7 +33,7 @@ fn keeps_way(row: &ArcRow, flow: i64, potentials: &[i64], way: Way) -> bool
     if way.room(row, flow) <= 0 {
         return true;
     }
-    let reduced = reduced_cost(row, potentials, way);
+    let reduced = reduced_along(row, potentials, way);
     reduced >= 0
 }
 

@@ -1,16 +1,16 @@
 -- Searches in order of distance, from settled nodes along residual arcs to the nearest open one
 -- (Ahuja, Magnanti, Orlin, "Network Flows": Dijkstra's algorithm, successive shortest paths).
-use Rattle.std.specs.Prelude.{◌≡◌, ℕ, ◌+◌, ◌*◌, ◌/◌, ◌<◌, ◌⊎◌, ℤ, pos, neg_ℤ, ◌-ℤ◌, ◌<ℤ◌, ◌≤ℤ◌, List, length, Bool, true, false, Option, MatchOption}
+use Rattle.std.specs.Prelude.{◌≡◌, ℕ, ◌+◌, ◌*◌, ◌/◌, ◌<◌, ◌⊎◌, ℤ, pos, neg_ℤ, ◌+ℤ◌, ◌-ℤ◌, ◌<ℤ◌, ◌≤ℤ◌, List, length, Bool, true, false, Option, MatchOption, slice_set}
 use Rattle.std.specs.List.{count_by}
 use Rattle.containers.specs.declared.queue.Waiting.{Waiting}
 use Rattle.containers.specs.Queue.{IsIn, QueueView, entry_at, key_at}
 use Rattle.dimacs_text.specs.declared.problem.ArcRow.{ArcRow}
 use Rattle.residual_graph.specs.declared.residual.Way.{Way}
-use Rattle.residual_graph.specs.Limits.{cost_limit}
+use Rattle.residual_graph.specs.Limits.{cost_limit, entry_limit, potential_floor}
 use Rattle.residual_graph.specs.Residual.{IsResidual, end_at, number_at, start_at}
 use Rattle.residual_graph.specs.Walk.{end_way}
 use Rattle.shortest_paths.specs.declared.predecessor.Predecessor.{Predecessor}
-use Rattle.shortest_paths.specs.Predecessor.{arc_to, predecessor_at, rank_at, reduced_at, way_to}
+use Rattle.shortest_paths.specs.Predecessor.{arc_to, predecessor_at, rank_at, reduced_at, root_node, way_to}
 
 -- the search came to node v, or v is open
 abbrev pub IsReached : List Predecessor → ℕ → Type 0
@@ -63,9 +63,21 @@ pub record IsForest (arcs : List ArcRow) (p : List ℤ) (t : List Predecessor) :
   pub hung : AreHung arcs t
   pub tight : AreTight arcs p t
 
+-- the rank of the node from which the residual arc goes that leaves at an end
+abbrev pub rank_before : List ArcRow → List Predecessor → ℕ → ℕ
+rank_before arcs t end = rank_at t (start_at arcs (end / 2) (end_way end))
+
 -- how a node is come to along the residual arc that leaves at an end
 abbrev pub come_from : List ArcRow → List Predecessor → ℕ → Predecessor
-come_from arcs t end = record { end = end; rank = rank_at t (start_at arcs (end / 2) (end_way end)) + 1; is_open = false }
+come_from arcs t end = record { end = end; rank = rank_before arcs t end + 1; is_open = false }
+
+-- node v is come to so
+abbrev pub come_to : List ArcRow → List Predecessor → ℕ → ℕ → List Predecessor
+come_to arcs t v end = slice_set t v (come_from arcs t end)
+
+-- the potential of node v rises
+abbrev pub raised : List ℤ → ℕ → ℤ → List ℤ
+raised p v rise = slice_set p v (number_at p v +ℤ rise)
 
 -- a residual arc leads from a node that the search reached to an open one
 pub record Crosses (arcs : List ArcRow) (x : List ℤ) (t : List Predecessor) (k : ℕ) (way : Way) : Type 0 where
@@ -102,6 +114,10 @@ pub record HaveJoined (arcs : List ArcRow) (x p : List ℤ) (t : List Predecesso
   pub kept : (v : ℕ) → IsIn q v → IsIn r v × (key_at r.entries v ≤ℤ key_at q.entries v)
   pub entries : (v : ℕ) → IsIn r v → (IsIn q v × (entry_at r.entries v ≡ entry_at q.entries v)) ⊎ IsAlong arcs x p t (entry_at r.entries v) v
 
+-- a potential is no further from 0 than potentials may be
+abbrev pub IsWithinFloor : ℤ → Type 0
+IsWithinFloor potential = (neg_ℤ (pos potential_floor) ≤ℤ potential) × (potential ≤ℤ pos potential_floor)
+
 -- a potential that falls unless its node is open
 abbrev pub lowered_by : Bool → ℤ → ℤ → ℤ
 lowered_by true potential fall = potential
@@ -134,6 +150,10 @@ pub record IsExhausted (arcs : List ArcRow) (x excess : List ℤ) (t : List Pred
   pub from : IsFromExcess excess t
   pub none_crosses : NoneCrosses arcs x t
 
+-- node v is this one, and in deficit
+abbrev pub IsDeficitAt : List ℤ → ℕ → ℕ → Type 0
+IsDeficitAt excess node v = (v ≡ node) × (number_at excess v <ℤ pos 0)
+
 -- a node in deficit is found, or none can be reached
 abbrev pub IsDeficitFound : List ArcRow → List ℤ → List ℤ → List ℤ → List Predecessor → Option ℕ → Type 0
 IsDeficitFound arcs x p excess t found = MatchOption found (IsExhausted arcs x excess t) (HasFound arcs x p excess t)
@@ -145,6 +165,16 @@ pub record AreOffered (p : List ℤ) (q : QueueView) : Type 0 where
   pub sized : length q.entries ≡ length p
   pub all : (v : ℕ) → v < length p → IsIn q v
   pub keys : (v : ℕ) → IsIn q v → key_at q.entries v ≡ neg_ℤ (number_at p v)
+
+-- where its potential stays below 0 by the key with which it waits, node v can be come to along the residual arc by which it waits
+pub record MayCome (arcs : List ArcRow) (p : List ℤ) (t : List Predecessor) (v : ℕ) (w : Waiting) : Type 0 where
+  pub is_arc : (number_at p v +ℤ w.key) <ℤ pos 0 → w.end / 2 < length arcs
+  pub low : (number_at p v +ℤ w.key) <ℤ pos 0 → rank_before arcs t w.end < entry_limit
+
+-- node v is settled: as a root, or where its potential is below 0 along the residual arc that leaves at an end
+pub record IsSettledBy (arcs : List ArcRow) (p : List ℤ) (t u : List Predecessor) (v end : ℕ) : Type 0 where
+  pub root : pos 0 ≤ℤ number_at p v → u ≡ slice_set t v root_node
+  pub along : number_at p v <ℤ pos 0 → u ≡ come_to arcs t v end
 
 -- the nodes at which it began have potential 0, and none falls by more than a path can cost
 pub record AreRaised (p : List ℤ) (t : List Predecessor) : Type 0 where

@@ -4,6 +4,7 @@ use Rattle.dimacs_text.specs.declared.problem.ArcRow.{ArcRow}
 use Rattle.residual_graph.specs.Residual.{row_at}
 use Rattle.residual_graph.specs.declared.residual_network.Residual.{Residual}
 use Rattle.tracked.specs.Marks.{in_set}
+use Rattle.tracked.specs.Touched.{AgreeAt}
 use Rattle.shortest_paths.specs.declared.predecessor.Predecessor.{Predecessor}
 
 -- the labels that were tested last, with their predecessors; the arcs that are noted since, with the nodes beside them; and whether more changed than is noted
@@ -24,6 +25,11 @@ pub record TreeView : Type 0 where
 abbrev pub IsTreeOf : Residual → TreeView → Type 0
 IsTreeOf net t = length t.labels ≡ length net.potentials.now
 
+module _ {T : Type 0} where
+  -- two tables agree wherever there is no mark
+  abbrev pub AgreeUnmarked : List Bool → List T → List T → Type 0
+  AgreeUnmarked marks xs ys = (v : ℕ) → in_set marks v ≡ false → AgreeAt xs ys v
+
 -- the labels that are held are the same, and whatever was noted is so still
 pub record StaysHeld (h h' : HeldView) : Type 0 where
   pub labels : h'.labels ≡ h.labels
@@ -37,6 +43,10 @@ pub record IsArcNoted (arcs : List ArcRow) (h : HeldView) (k : ℕ) : Type 0 whe
   pub arc : in_set h.noted k ≡ true
   pub tail : in_set h.beside (row_at arcs k).tail ≡ true
   pub head : in_set h.beside (row_at arcs k).head ≡ true
+
+-- so it is, unless more changed than is noted
+abbrev pub IsNotedIn : List ArcRow → HeldView → ℕ → Type 0
+IsNotedIn arcs h k = h.is_lost ≡ false → IsArcNoted arcs h k
 
 -- so is each arc that the places name, unless more changed than is noted
 abbrev pub AreArcsNoted : List ArcRow → List ℕ → HeldView → Type 0

@@ -2,10 +2,7 @@
 //!
 //! Proved is that each call returns, and that no index leaves its range.
 
-ghost use Rattle.std.specs.Prelude.{◌≡◌, IfOk};
-
 use std::alloc::{AllocError, Global};
-use std::marker::Model;
 
 /// How a node is joined to others. Node 0 stands for none.
 #[derive(Clone, Copy)]
@@ -19,7 +16,7 @@ pub(crate) struct Joint {
     pub is_reached: bool,
 }
 
-/// The joints of all nodes. It is seen as the number of entries.
+/// The joints of all nodes.
 #[derive(Drop)]
 pub(crate) struct Forest {
     joints: Vec<Joint>,
@@ -34,37 +31,23 @@ const ALONE: Joint = Joint {
     is_reached: false,
 };
 
-impl Model for Forest {
-    ghost use Rattle.std.specs.Prelude.{ℕ, length};
-
-    ghost Value = { ℕ };
-
-    ghost view = { λ f. length f.joints.items };
-}
-
 impl Forest {
     /// So many nodes.
     ///
     /// # Errors
     /// Memory for a table was refused.
-    pub fn new(alloc: Global, entries: usize) -> Result<Forest, AllocError>
-        ensures { IfOk result (λ f. f ≡ entries) }
-    {
+    pub fn new(alloc: Global, entries: usize) -> Result<Forest, AllocError> {
         let joints = vec![in alloc; ALONE; entries]?;
         Ok(Forest { joints })
     }
 
     /// Parts all nodes.
-    pub fn clear(&mut self)
-        ensures { self.new ≡ self.old }
-    {
+    pub fn clear(&mut self) {
         self.joints.fill(ALONE);
     }
 
     /// Joins a node to the one above it, by a residual arc that leaves at this end.
-    pub fn join(&mut self, v: u32, above: u32, end: u32)
-        ensures { self.new ≡ self.old }
-    {
+    pub fn join(&mut self, v: u32, above: u32, end: u32) {
         let place = v as usize;
         let upper = above as usize;
         if place < self.joints.len() && upper < self.joints.len() {
@@ -85,17 +68,9 @@ impl Forest {
         }
     }
 
-    /// Whether a node was reached.
-    #[inline(always)]
-    pub fn is_reached(&self, v: u32) -> bool {
-        (v as usize) < self.joints.len() && self.joints[v as usize].is_reached
-    }
-
     /// Notes that a node was reached.
     #[inline(always)]
-    pub fn reach(&mut self, v: u32)
-        ensures { self.new ≡ self.old }
-    {
+    pub fn reach(&mut self, v: u32) {
         if (v as usize) < self.joints.len() {
             self.joints[v as usize].is_reached = true;
         }

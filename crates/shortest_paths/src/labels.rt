@@ -1,15 +1,14 @@
 //! The greatest potentials that certify a flow: the shortest labels of all nodes.
 
-ghost use Rattle.std.specs.Prelude.{◌≡◌, ◌/◌, ◌<◌, ◌+ℤ◌, ◌<ℤ◌, ◌≤ℤ◌, FitsSigned, List, ℤ, length, pos, slice_set};
+ghost use Rattle.std.specs.Prelude.{◌≡◌, ◌<◌, ◌+ℤ◌, FitsSigned, List, ℤ, length};
 ghost use Rattle.std.specs.Int.{w64};
-ghost use Rattle.residual_graph.specs.Limits.{entry_limit, potential_floor};
-ghost use Rattle.residual_graph.specs.Residual.{AreGreatest, ArePotentials, IsPseudoflow, IsReducedCostOptimal, number_at, start_at};
+ghost use Rattle.residual_graph.specs.Limits.{potential_floor};
+ghost use Rattle.residual_graph.specs.Residual.{AreGreatest, ArePotentials, IsPseudoflow, IsReducedCostOptimal, number_at};
 ghost use Rattle.shortest_paths.specs.Limits.{label_floor};
-ghost use Rattle.residual_graph.specs.Walk.{end_way};
-ghost use Rattle.shortest_paths.specs.Predecessor.{rank_at, root_node};
-ghost use Rattle.shortest_paths.specs.Search.{AreOffered, come_from};
+ghost use Rattle.shortest_paths.specs.Search.{AreOffered, IsSettledBy, MayCome, raised};
 
 use crate::predecessor::Predecessor;
+use crate::progress::Progress;
 use crate::search::{come_along, offer_from, raise};
 use containers::{Queue, Waiting};
 use residual_graph::Graph;
@@ -43,11 +42,10 @@ fn settle(
     requires sized { length predecessors.old ≡ length potentials.old }
     requires node { node < length potentials.old }
     requires fits { FitsSigned w64 (number_at potentials.old node +ℤ waiting.key) }
-    requires end { (number_at potentials.old node +ℤ waiting.key) <ℤ pos 0 → waiting.end / 2 < length graph.now.rows }
-    requires low { (number_at potentials.old node +ℤ waiting.key) <ℤ pos 0 → rank_at predecessors.old (start_at graph.now.rows (waiting.end / 2) (end_way waiting.end)) < entry_limit }
-    ensures raised { potentials.new ≡ slice_set potentials.old node (number_at potentials.old node +ℤ waiting.key) }
-    ensures root { pos 0 ≤ℤ (number_at potentials.old node +ℤ waiting.key) → predecessors.new ≡ slice_set predecessors.old node root_node }
-    ensures along { (number_at potentials.old node +ℤ waiting.key) <ℤ pos 0 → predecessors.new ≡ slice_set predecessors.old node (come_from graph.now.rows predecessors.old waiting.end) }
+    requires along { MayCome graph.now.rows potentials.old predecessors.old node waiting }
+    ensures raised { potentials.new ≡ raised potentials.old node waiting.key }
+    ensures settled { IsSettledBy graph.now.rows potentials.new predecessors.old predecessors.new node
+        waiting.end }
 {
     raise(potentials, node, waiting);
     if potentials[node] < 0 {
@@ -80,6 +78,12 @@ pub fn search_labels(
     while let Some(node) = queue.take_first() {
         let waiting = queue.entry(node);
         settle(graph, potentials, predecessors, node, waiting);
-        offer_from(graph, flow, potentials, predecessors, queue, node);
+        let reached = Progress {
+            graph,
+            flow,
+            potentials,
+            predecessors,
+        };
+        offer_from(reached, queue, node);
     }
 }

@@ -7,91 +7,63 @@
 ghost use Rattle.std.specs.Prelude.{◌≡◌, ◌+◌, ◌/◌, ◌<◌, false, IsTrue, List, ℤ, length};
 ghost use Rattle.residual_graph.specs.Limits.{potential_floor};
 ghost use Rattle.residual_graph.specs.Residual.{ArePotentials, IsPseudoflow};
-ghost use Rattle.shortest_paths.specs.Levels.{IsHangingOn, IsLeadingTo};
 ghost use Rattle.shortest_paths.specs.Predecessor.{AreBounded};
+ghost use Rattle.shortest_paths.specs.Levels.{IsHangingOn};
+ghost use Rattle.shortest_paths.specs.Progress.{IsLeadingToOn};
 ghost use Rattle.shortest_paths.specs.Search.{IsForest, IsSearch};
 
-use crate::predecessor::{Predecessor, leaving, reduced_cost};
+use crate::predecessor::{Predecessor, leaving, reduced_along};
+use crate::progress::Progress;
 use crate::search::{begin_in_excess, come_along, crosses};
 use containers::{Queue, Waiting};
 use residual_graph::Graph;
 
 /// Has the node wait to which the residual arc leads that leaves at an end, where that is there, crosses and costs nothing.
-fn offer_level(
-    graph: &Graph,
-    flow: &[i64],
-    potentials: &[i64],
-    predecessors: &[Predecessor],
-    queue: &mut Queue,
-    end: u32,
-)
-    requires flow { IsPseudoflow (length potentials.now) graph.now.rows flow.now }
-    requires bounded { AreBounded potential_floor potentials.now }
-    requires sized { length predecessors.now ≡ length potentials.now }
-    requires queue_sized { length queue.old.entries ≡ length potentials.now }
-    requires end { end / 2 < length graph.now.rows }
+fn offer_level(on: Progress<'_>, queue: &mut Queue, end: u32)
+    requires sized { length queue.old.entries ≡ length on.potentials.now }
+    requires end { end / 2 < length on.graph.now.rows }
     ensures { length queue.new.entries ≡ length queue.old.entries }
 {
-    if !crosses(graph, flow, predecessors, end) {
+    if !crosses(on, end) {
         return;
     }
     let arc = leaving(end);
-    let row = graph.row(arc.arc as usize);
-    if reduced_cost(&row, potentials, arc.way) == 0 {
+    let row = on.graph.row(arc.arc as usize);
+    if reduced_along(&row, on.potentials, arc.way) == 0 {
         let start = arc.way.start(&row) as usize;
         let far = arc.way.end(&row) as usize;
-        let key = i64::from(predecessors[start].rank);
+        let key = i64::from(on.predecessors[start].rank);
         queue.offer(far, Waiting { key, end });
     }
 }
 
 /// The same for all residual arcs that leave a node.
-fn offer_levels_from(
-    graph: &Graph,
-    flow: &[i64],
-    potentials: &[i64],
-    predecessors: &[Predecessor],
-    queue: &mut Queue,
-    node: usize,
-)
-    requires flow { IsPseudoflow (length potentials.now) graph.now.rows flow.now }
-    requires bounded { AreBounded potential_floor potentials.now }
-    requires sized { length predecessors.now ≡ length potentials.now }
-    requires queue_sized { length queue.old.entries ≡ length potentials.now }
-    requires node { node < length potentials.now }
+fn offer_levels_from(on: Progress<'_>, queue: &mut Queue, node: usize)
+    requires sized { length queue.old.entries ≡ length on.potentials.now }
+    requires node { node < length on.potentials.now }
     ensures { length queue.new.entries ≡ length queue.old.entries }
 {
-    if predecessors[node].is_open {
+    if on.predecessors[node].is_open {
         return;
     }
-    let mut current = graph.first_end(node as u32);
+    let mut current = on.graph.first_end(node as u32);
     while let Some(end) = current {
-        offer_level(graph, flow, potentials, predecessors, queue, end);
-        current = graph.next_end(end);
+        offer_level(on, queue, end);
+        current = on.graph.next_end(end);
     }
 }
 
 /// Whether the residual arc that leaves at an end is there, leads from a node that was reached to this one, to which no
 /// search came yet, and costs nothing.
-fn leads_to(
-    graph: &Graph,
-    flow: &[i64],
-    potentials: &[i64],
-    predecessors: &[Predecessor],
-    node: usize,
-    end: u32,
-) -> bool
-    requires flow { IsPseudoflow (length potentials.now) graph.now.rows flow.now }
-    requires bounded { AreBounded potential_floor potentials.now }
-    requires sized { length predecessors.now ≡ length potentials.now }
-    ensures { IsTrue result → IsLeadingTo graph.now.rows flow.now potentials.now predecessors.now node end }
+fn leads_to(on: Progress<'_>, node: usize, end: u32) -> bool
+    ensures { IsTrue result → IsLeadingToOn on.entry node end }
 {
-    if end as usize / 2 >= graph.rows().len() || !crosses(graph, flow, predecessors, end) {
+    if end as usize / 2 >= on.graph.rows().len() || !crosses(on, end) {
         return false;
     }
     let arc = leaving(end);
-    let row = graph.row(arc.arc as usize);
-    arc.way.end(&row) as usize == node && reduced_cost(&row, potentials, arc.way) == 0
+    let row = on.graph.row(arc.arc as usize);
+    arc.way.end(&row) as usize == node && reduced_along(&row, on.potentials, arc.way) == 0
 }
 
 /// Searches breadth first from the nodes in excess over residual arcs that cost nothing, and says whether it came to a
@@ -114,18 +86,36 @@ pub fn search_levels(
 {
     begin_in_excess(excess, predecessors);
     queue.clear();
-    for v in 0..predecessors.len() {
-        offer_levels_from(graph, flow, potentials, predecessors, queue, v);
+    let begun = Progress {
+        graph,
+        flow,
+        potentials,
+        predecessors,
+    };
+    for v in 0..begun.predecessors.len() {
+        offer_levels_from(begun, queue, v);
     }
     let mut has_deficit = false;
     while let Some(node) = queue.take_first() {
         let end = queue.entry(node).end;
-        if !leads_to(graph, flow, potentials, predecessors, node, end) {
+        let before = Progress {
+            graph,
+            flow,
+            potentials,
+            predecessors,
+        };
+        if !leads_to(before, node, end) {
             break;
         }
         come_along(graph, predecessors, node, end);
         has_deficit = has_deficit || excess[node] < 0;
-        offer_levels_from(graph, flow, potentials, predecessors, queue, node);
+        let reached = Progress {
+            graph,
+            flow,
+            potentials,
+            predecessors,
+        };
+        offer_levels_from(reached, queue, node);
     }
     has_deficit
 }
@@ -164,7 +154,8 @@ fn is_hanging_on(
     requires bounded { AreBounded potential_floor potentials.now }
     requires sized { length predecessors.now ≡ length potentials.now }
     requires node { node < length potentials.now }
-    ensures { IsTrue result → IsHangingOn graph.now.rows potentials.now predecessors.now node end }
+    ensures { IsTrue result → IsHangingOn graph.now.rows potentials.now predecessors.now node
+        end }
 {
     if end as usize / 2 >= graph.rows().len() {
         return false;
@@ -174,7 +165,7 @@ fn is_hanging_on(
     let start = arc.way.start(&row) as usize;
     arc.way.end(&row) as usize == node
         && is_next(predecessors[start], predecessors[node])
-        && reduced_cost(&row, potentials, arc.way) == 0
+        && reduced_along(&row, potentials, arc.way) == 0
 }
 
 /// Whether a node with this predecessor was reached, and one with the other is one hop further from the beginning.

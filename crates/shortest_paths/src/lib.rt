@@ -10,12 +10,13 @@ mod labels;
 mod levels;
 mod links;
 mod predecessor;
+mod progress;
 mod rooms;
 mod search;
 mod tree;
 
 pub use labels::search_labels;
 pub use levels::{hang_on, search_levels};
-pub use predecessor::{Predecessor, are_traced, is_traced, reduced_cost};
+pub use predecessor::{Predecessor, are_traced, is_traced, reduced_along};
 pub use search::search_from_excess;
 pub use tree::Tree;

@@ -65,7 +65,8 @@ pub(crate) fn leaving(end: u32) -> ResidualArc
 pub fn are_traced(graph: &Graph, flow: &[i64], labels: &[i64], predecessors: &[Predecessor]) -> bool
     requires flow { IsPseudoflow (length labels.now) graph.now.rows flow.now }
     requires labels { ArePotentials (length labels.now) label_floor labels.now }
-    ensures traced { IsTrue result → AllTraced graph.now.rows flow.now labels.now predecessors.now }
+    ensures traced { IsTrue result → AllTraced graph.now.rows flow.now labels.now
+        predecessors.now }
     ensures greatest { IsTrue result → AreGreatest graph.now.rows flow.now labels.now }
 {
     if predecessors.len() != labels.len() {
@@ -124,11 +125,11 @@ fn comes_along(
     way.room(row, flow) > 0
         && way.end(row) as usize == v
         && predecessors[start].rank < predecessors[v].rank
-        && reduced_cost(row, labels, way) == 0
+        && reduced_along(row, labels, way) == 0
 }
 
-/// The cost of a residual arc less what the labels of its ends pay for it.
-pub fn reduced_cost(row: &ArcRow, labels: &[i64], way: Way) -> i64
+/// The reduced cost of the residual arc in this way along an arc: its cost, less what the labels of its ends pay for it.
+pub fn reduced_along(row: &ArcRow, labels: &[i64], way: Way) -> i64
     requires row { IsRow (length labels.now) row.now }
     requires labels { AreBounded potential_floor labels.now }
     ensures { result ≡ reduced_by row.now labels.now way }

@@ -2,8 +2,7 @@
 //!
 //! Proved is that each call returns, and that no index leaves its range.
 
-ghost use Rattle.std.specs.Prelude.{◌<◌, length};
-
+use crate::predecessor::leaving;
 use residual_graph::{Residual, ResidualArc, Way};
 use std::alloc::{AllocError, Global};
 
@@ -35,30 +34,26 @@ impl Rooms {
         let arcs = residual.graph.rows().len();
         self.ends.truncate(arcs.saturating_mul(2));
         for k in self.ends.len() / 2..arcs {
+            let arc = ResidualArc {
+                arc: k as u32,
+                way: Way::Forward,
+            };
             if self.ends.len() < self.ends.capacity() {
-                self.ends.push_reserved(has_room(residual, k, Way::Forward));
+                self.ends
+                    .push_reserved(residual.graph.has_room(residual.flow, arc));
             }
             if self.ends.len() < self.ends.capacity() {
                 self.ends
-                    .push_reserved(has_room(residual, k, Way::Backward));
+                    .push_reserved(residual.graph.has_room(residual.flow, arc.turned()));
             }
         }
     }
 
-    /// Takes over these arcs.
-    pub fn renew_all(&mut self, residual: Residual<'_>, places: &[u32]) {
-        for k in places {
-            self.renew(residual, *k);
-        }
-    }
-
-    /// Takes over an arc.
-    fn renew(&mut self, residual: Residual<'_>, k: u32) {
-        let tail = k as usize * 2;
-        let k = k as usize;
-        if k < residual.graph.rows().len() && tail + 1 < self.ends.len() {
-            self.ends[tail] = has_room(residual, k, Way::Forward);
-            self.ends[tail + 1] = has_room(residual, k, Way::Backward);
+    /// Takes over the residual arc that leaves at an end.
+    pub fn renew(&mut self, residual: Residual<'_>, end: u32) {
+        let place = end as usize;
+        if place / 2 < residual.graph.rows().len() && place < self.ends.len() {
+            self.ends[place] = residual.graph.has_room(residual.flow, leaving(end));
         }
     }
 
@@ -68,12 +63,4 @@ impl Rooms {
         let end = end as usize;
         end < self.ends.len() && self.ends[end]
     }
-}
-
-/// Whether a residual arc has room.
-fn has_room(residual: Residual<'_>, k: usize, way: Way) -> bool
-    requires { k < length residual.graph.now.rows }
-{
-    let arc = ResidualArc { arc: k as u32, way };
-    residual.graph.has_room(residual.flow, arc)
 }

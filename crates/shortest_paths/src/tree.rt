@@ -3,22 +3,20 @@
 //! Proved is that each call returns, that no index, sum or cast leaves its range, and that what is held stays as it is while
 //! labels are looked for. Nothing is proved of these labels: who takes them tests them, and has them accepted.
 
-ghost use Rattle.std.specs.Prelude.{◌≡◌, ℕ, ◌<◌, ◌≤◌, IfOk, IsTrue, false, length, true};
+ghost use Rattle.std.specs.Prelude.{◌≡◌, ◌/◌, ◌<◌, ◌≤◌, IfOk, IfSome, length, true};
 ghost use Rattle.residual_graph.specs.Limits.{row_limit};
 ghost use Rattle.residual_graph.specs.Walk.{IsWithin};
-ghost use Rattle.tracked.specs.Marks.{in_set};
-ghost use Rattle.tracked.specs.Touched.{AgreeAt};
-ghost use Rattle.shortest_paths.specs.Tree.{AreArcsNoted, IsArcNoted, IsTreeOf, StaysHeld};
+ghost use Rattle.shortest_paths.specs.Tree.{AgreeUnmarked, AreArcsNoted, IsNotedIn, IsTreeOf, StaysHeld};
 
 mod near;
 mod whole;
 
 use crate::forest::Forest;
 use crate::links::Links;
-use crate::predecessor::Predecessor;
+use crate::predecessor::{Predecessor, leaving};
 use crate::rooms::Rooms;
 use containers::{Heap, both};
-use residual_graph::{End, Graph, Residual, ResidualArc, Walk, Way};
+use residual_graph::{End, Graph, Residual, Walk};
 use std::alloc::{AllocError, Global};
 use std::marker::Model;
 use tracked::{Touched, Tracked};
@@ -164,7 +162,7 @@ impl Tree {
 
     /// Where labels may be others than those that were tested.
     pub fn relabelled(&self) -> &Touched
-        ensures elsewhere { (v : ℕ) → in_set result.now v ≡ false → AgreeAt self.now.held.labels self.now.labels v }
+        ensures elsewhere { AgreeUnmarked result.now self.now.held.labels self.now.labels }
         ensures room { length self.now.labels ≤ length result.now }
         ensures as_many { length self.now.held.labels ≡ length self.now.labels }
     {
@@ -173,7 +171,8 @@ impl Tree {
 
     /// Where predecessors may be others than those that were tested.
     pub fn rehung(&self) -> &Touched
-        ensures elsewhere { (v : ℕ) → in_set result.now v ≡ false → AgreeAt self.now.held.predecessors self.now.predecessors v }
+        ensures elsewhere { AgreeUnmarked result.now self.now.held.predecessors
+            self.now.predecessors }
         ensures room { length self.now.labels ≤ length result.now }
     {
         self.predecessors.written()
@@ -206,7 +205,7 @@ impl Tree {
         ensures labels { self.new.labels ≡ self.old.labels }
         ensures predecessors { self.new.predecessors ≡ self.old.predecessors }
         ensures held { StaysHeld self.old.held self.new.held }
-        ensures noted { self.new.held.is_lost ≡ false → k < length graph.now.rows → IsArcNoted graph.now.rows self.new.held k }
+        ensures noted { k < length graph.now.rows → IsNotedIn graph.now.rows self.new.held k }
     {
         if k >= graph.rows().len() {
             return;
@@ -305,8 +304,11 @@ impl Tree {
         }
         self.links.forget_all(self.beside.places());
         self.rooms.fit(residual);
-        self.rooms.renew_all(residual, self.noted.places());
-        self.rooms.renew_all(residual, written);
+        for i in 0..self.changes(written) {
+            if let Some(end) = self.changed_end(residual, written, i) {
+                self.rooms.renew(residual, end);
+            }
+        }
         self.mend_there(residual, written) || self.mend_whole(residual, written)
     }
 
@@ -318,48 +320,14 @@ impl Tree {
         residual.potentials[v].saturating_sub(self.taken_off)
     }
 
-    /// The label of a node.
-    #[inline(always)]
-    fn label(&self, v: usize) -> i64
-        requires node { v < length self.now.labels }
-    {
-        self.labels.get(v)
-    }
-
-    /// How a node got its label.
-    #[inline(always)]
-    fn predecessor(&self, v: usize) -> Predecessor
-        requires node { v < length self.now.labels }
-    {
-        self.predecessors.get(v)
-    }
-
-    /// Gives a node a label.
-    fn set_label(&mut self, v: usize, label: i64)
-        requires node { v < length self.old.labels }
-        ensures sized { length self.new.labels ≡ length self.old.labels }
-        ensures held { self.new.held ≡ self.old.held }
-    {
-        self.labels.set(v, label);
-    }
-
-    /// Gives a node a predecessor.
-    fn set_predecessor(&mut self, v: usize, predecessor: Predecessor)
-        requires node { v < length self.old.labels }
-        ensures sized { length self.new.labels ≡ length self.old.labels }
-        ensures held { self.new.held ≡ self.old.held }
-    {
-        self.predecessors.set(v, predecessor);
-    }
-
-    /// Gives a node both.
+    /// Gives a node a label and a predecessor.
     fn put(&mut self, v: usize, label: i64, predecessor: Predecessor)
         requires node { v < length self.old.labels }
         ensures sized { length self.new.labels ≡ length self.old.labels }
         ensures held { self.new.held ≡ self.old.held }
     {
-        self.set_label(v, label);
-        self.set_predecessor(v, predecessor);
+        self.labels.set(v, label);
+        self.predecessors.set(v, predecessor);
     }
 
     /// Begins with no loose node and none that is queued.
@@ -374,14 +342,53 @@ impl Tree {
         self.open = 0;
     }
 
-    /// The label to which a residual arc leads.
-    fn label_by(&self, residual: Residual<'_>, arc: ResidualArc) -> i64
-        requires sized { IsTreeOf residual self.now }
-        requires arc_in { arc.arc < length residual.graph.now.rows }
+    /// How many residual arcs may have changed: two along each arc that is noted or is among these.
+    fn changes(&self, written: &[u32]) -> usize {
+        let arcs = self.noted.places().len().saturating_add(written.len());
+        arcs.saturating_mul(2)
+    }
+
+    /// The end at which the residual arc of this number among them leaves.
+    fn changed_end(&self, residual: Residual<'_>, written: &[u32], i: usize) -> Option<u32>
+        ensures { IfSome result (λ end. end / 2 < length residual.entry.graph.now.rows) }
     {
+        let noted = self.noted.places();
+        let place = i / 2;
+        let k = if place < noted.len() {
+            noted[place]
+        } else {
+            entry(written, place - noted.len())
+        };
+        let end = k.saturating_mul(2).saturating_add(u32::from(i % 2 == 1));
+        if end as usize / 2 >= residual.graph.rows().len() {
+            return None;
+        }
+        Some(end)
+    }
+
+    /// The label to which the residual arc leads that leaves at an end.
+    fn label_by(&self, residual: Residual<'_>, end: u32) -> i64
+        requires sized { IsTreeOf residual self.now }
+        requires end { end / 2 < length residual.graph.now.rows }
+    {
+        let arc = leaving(end);
         let row = residual.graph.row(arc.arc as usize);
         let start = arc.way.start(&row) as usize;
-        self.label(start).saturating_add(arc.way.unit_cost(&row))
+        self.labels
+            .get(start)
+            .saturating_add(arc.way.unit_cost(&row))
+    }
+
+    /// Whether the residual arc that enters a node at this end has room, and leads to the node at its label.
+    fn is_tight(&self, residual: Residual<'_>, v: u32, end: End) -> bool
+        requires sized { IsTreeOf residual self.now }
+        requires node { v < length residual.potentials.now }
+        requires end { IsWithin residual.graph.now end }
+        ensures { end.other < length self.now.labels }
+    {
+        let label = self.labels.get(end.other as usize);
+        label.saturating_sub(end.cost) == self.labels.get(v as usize)
+            && self.rooms.is_open(across(end.number))
     }
 
     /// Queues the loose nodes.
@@ -412,11 +419,9 @@ impl Tree {
         let mut walk = Walk::at(residual.graph, v);
         while let Some(end) = walk.next() {
             if self.leads_below(residual, end, label) {
-                label = self.label(end.other as usize).saturating_sub(end.cost);
-                predecessor = after(
-                    end_of(end.entering()),
-                    self.predecessor(end.other as usize).rank,
-                );
+                label = self.labels.get(end.other as usize).saturating_sub(end.cost);
+                let rank = self.predecessors.get(end.other as usize).rank;
+                predecessor = after(across(end.number), rank);
                 if label <= least {
                     break;
                 }
@@ -432,9 +437,9 @@ impl Tree {
         requires end { IsWithin residual.graph.now end }
         ensures { end.other < length self.now.labels }
     {
-        self.label(end.other as usize).saturating_sub(end.cost) < label
-            && !self.predecessor(end.other as usize).is_open
-            && self.rooms.is_open(end_of(end.entering()))
+        self.labels.get(end.other as usize).saturating_sub(end.cost) < label
+            && !self.predecessors.get(end.other as usize).is_open
+            && self.rooms.is_open(across(end.number))
     }
 
     /// Gives a node a lower label, and queues it.
@@ -447,8 +452,8 @@ impl Tree {
         let place = v as usize;
         let potential = self.potential(residual, place);
         let key = label.saturating_sub(potential);
-        let key_before = self.label(place).saturating_sub(potential);
-        let is_open = self.predecessor(place).is_open;
+        let key_before = self.labels.get(place).saturating_sub(potential);
+        let is_open = self.predecessors.get(place).is_open;
         if key == self.present {
             // Nothing is below: where the node is in the heap, it is passed over when it comes up there.
             self.put(
@@ -520,15 +525,15 @@ impl Tree {
         ensures held { self.new.held ≡ self.old.held }
     {
         let place = v as usize;
-        if place >= self.labels.entries().len() || !self.predecessor(place).is_open {
+        if place >= self.labels.entries().len() || !self.predecessors.get(place).is_open {
             return false;
         }
         self.open = self.open.saturating_sub(1);
         let closed = Predecessor {
             is_open: false,
-            ..self.predecessor(place)
+            ..self.predecessors.get(place)
         };
-        self.set_predecessor(place, closed);
+        self.predecessors.set(place, closed);
         true
     }
 
@@ -561,22 +566,11 @@ impl Tree {
         }
         let mut walk = Walk::at(residual.graph, u);
         while let Some(end) = walk.next() {
-            self.improve_beyond(residual, u, end);
-        }
-    }
-
-    /// Improves the label of the other node at this end of a node.
-    fn improve_beyond(&mut self, residual: Residual<'_>, u: u32, end: End)
-        requires sized { IsTreeOf residual self.old }
-        requires node { u < length residual.potentials.now }
-        requires end { IsWithin residual.graph.now end }
-        ensures sized { IsTreeOf residual.entry self.new }
-        ensures held { self.new.held ≡ self.old.held }
-    {
-        let label = self.label(u as usize).saturating_add(end.cost);
-        if label < self.label(end.other as usize) && self.rooms.is_open(end.number) {
-            let predecessor = after(end.number, self.predecessor(u as usize).rank);
-            self.improve(residual, end.other, label, predecessor);
+            let label = self.labels.get(u as usize).saturating_add(end.cost);
+            if label < self.labels.get(end.other as usize) && self.rooms.is_open(end.number) {
+                let predecessor = after(end.number, self.predecessors.get(u as usize).rank);
+                self.improve(residual, end.other, label, predecessor);
+            }
         }
     }
 }
@@ -591,20 +585,9 @@ fn entry(list: &[u32], i: usize) -> u32 {
     if i < list.len() { list[i] } else { u32::MAX }
 }
 
-/// The residual arc in this way along an arc.
-fn arc_of(k: u32, way: Way) -> ResidualArc
-    ensures { result.arc ≡ k }
-{
-    ResidualArc { arc: k, way }
-}
-
-/// The end at which a residual arc leaves.
-fn end_of(arc: ResidualArc) -> u32 {
-    let end = arc.arc.saturating_mul(2);
-    match arc.way {
-        Way::Forward => end,
-        Way::Backward => end.saturating_add(1),
-    }
+/// The end at the other node of an arc.
+fn across(end: u32) -> u32 {
+    end ^ 1
 }
 
 /// A queued node whose predecessor has this rank; the residual arc to it leaves at this end.

@@ -1,12 +1,12 @@
 //! The tree of labels mended near the arcs that changed, where few nodes are to be looked at.
 
-ghost use Rattle.std.specs.Prelude.{◌≡◌, ◌<◌, length};
+ghost use Rattle.std.specs.Prelude.{◌≡◌, ◌/◌, ◌<◌, length};
 ghost use Rattle.residual_graph.specs.Walk.{IsWithin};
 ghost use Rattle.shortest_paths.specs.Tree.{IsTreeOf};
 
-use super::{FAR, Tree, after, arc_of, end_of, entry};
-use crate::predecessor::Predecessor;
-use residual_graph::{End, Residual, ResidualArc, Walk, Way};
+use super::{FAR, Tree, across, after};
+use crate::predecessor::{Predecessor, leaving};
+use residual_graph::{Residual, Walk};
 
 /// While fewer nodes are loose, one that lost its predecessor is hung on another node at the same label, if there is
 /// one.
@@ -29,52 +29,37 @@ impl Tree {
         ensures held { self.new.held ≡ self.old.held }
     {
         self.begin();
-        let noted = self.noted.places().len();
-        for i in 0..noted {
-            let k = entry(self.noted.places(), i);
-            self.loosen_along(residual, k);
-        }
-        for k in written {
-            self.loosen_along(residual, *k);
+        for i in 0..self.changes(written) {
+            if let Some(end) = self.changed_end(residual, written, i) {
+                self.loosen_at(residual, end);
+            }
         }
         if !self.loosen_below(residual) {
             return false;
         }
         self.hang_all(residual);
-        for i in 0..noted {
-            let k = entry(self.noted.places(), i);
-            self.improve_along(residual, k);
-        }
-        for k in written {
-            self.improve_along(residual, *k);
+        for i in 0..self.changes(written) {
+            if let Some(end) = self.changed_end(residual, written, i) {
+                self.improve_by(residual, end);
+            }
         }
         self.settle_few(residual)
     }
 
-    /// Loosens the nodes that hang on an arc which no longer leads to them.
-    fn loosen_along(&mut self, residual: Residual<'_>, k: u32)
+    /// Loosens the node that hangs on the residual arc that leaves at an end, unless that still leads to it, and its label is
+    /// no lower than by it.
+    fn loosen_at(&mut self, residual: Residual<'_>, end: u32)
         requires sized { IsTreeOf residual self.old }
+        requires end { end / 2 < length residual.graph.now.rows }
         ensures sized { IsTreeOf residual.entry self.new }
         ensures held { self.new.held ≡ self.old.held }
     {
-        if (k as usize) < residual.graph.rows().len() {
-            self.loosen_at(residual, arc_of(k, Way::Forward));
-            self.loosen_at(residual, arc_of(k, Way::Backward));
-        }
-    }
-
-    /// Loosens the node that hangs on a residual arc, unless that still leads to it, and its label is no lower than by it.
-    fn loosen_at(&mut self, residual: Residual<'_>, arc: ResidualArc)
-        requires sized { IsTreeOf residual self.old }
-        requires arc_in { arc.arc < length residual.graph.now.rows }
-        ensures sized { IsTreeOf residual.entry self.new }
-        ensures held { self.new.held ≡ self.old.held }
-    {
+        let arc = leaving(end);
         let v = residual.graph.end(arc.arc as usize, arc.way);
-        if !self.hangs(v, end_of(arc)) {
+        if !self.hangs(v, end) {
             return;
         }
-        if self.rooms.is_open(end_of(arc)) && self.label(v) >= self.label_by(residual, arc) {
+        if self.rooms.is_open(end) && self.labels.get(v) >= self.label_by(residual, end) {
             return;
         }
         self.loosen(residual, v as u32);
@@ -84,7 +69,7 @@ impl Tree {
     fn hangs(&self, v: usize, end: u32) -> bool
         requires node { v < length self.now.labels }
     {
-        self.predecessor(v).end == end && self.label(v) < 0
+        self.predecessors.get(v).end == end && self.labels.get(v) < 0
     }
 
     /// Loosens a node, unless it can hang on another one at its label while few are loose.
@@ -98,7 +83,7 @@ impl Tree {
             return;
         }
         if self.loose.len() < self.loose.capacity() && self.loose.push(v).is_ok() {
-            self.set_label(v as usize, FAR);
+            self.labels.set(v as usize, FAR);
         }
     }
 
@@ -111,27 +96,17 @@ impl Tree {
     {
         let mut walk = Walk::at(residual.graph, v);
         while let Some(end) = walk.next() {
-            if self.can_hang(residual, v, end) {
-                let predecessor = Predecessor {
-                    end: end_of(end.entering()),
-                    ..self.predecessor(v as usize)
-                };
-                self.set_predecessor(v as usize, predecessor);
+            let hung = self.predecessors.get(v as usize);
+            if self.is_tight(residual, v, end)
+                && self.predecessors.get(end.other as usize).rank < hung.rank
+            {
+                let end = across(end.number);
+                self.predecessors
+                    .set(v as usize, Predecessor { end, ..hung });
                 return true;
             }
         }
         false
-    }
-
-    /// Whether a node can hang at its label on the other node at this end.
-    fn can_hang(&self, residual: Residual<'_>, v: u32, end: End) -> bool
-        requires sized { IsTreeOf residual self.now }
-        requires node { v < length residual.potentials.now }
-        requires end { IsWithin residual.graph.now end }
-    {
-        self.label(end.other as usize).saturating_sub(end.cost) == self.label(v as usize)
-            && self.predecessor(end.other as usize).rank < self.predecessor(v as usize).rank
-            && self.rooms.is_open(end_of(end.entering()))
     }
 
     /// Loosens the nodes that hang on loose ones, and says whether all were gone over.
@@ -194,7 +169,7 @@ impl Tree {
         requires sized { IsTreeOf residual self.now }
         requires node { v < length residual.potentials.now }
     {
-        residual.potentials[v].saturating_sub(self.label(v))
+        residual.potentials[v].saturating_sub(self.labels.get(v))
     }
 
     /// Loosens the nodes that hang on a node.
@@ -214,34 +189,23 @@ impl Tree {
         }
     }
 
-    /// Improves the labels to which the residual arcs along an arc lead.
-    fn improve_along(&mut self, residual: Residual<'_>, k: u32)
+    /// Improves the label to which the residual arc leads that leaves at an end.
+    fn improve_by(&mut self, residual: Residual<'_>, end: u32)
         requires sized { IsTreeOf residual self.old }
+        requires end { end / 2 < length residual.graph.now.rows }
         ensures sized { IsTreeOf residual.entry self.new }
         ensures held { self.new.held ≡ self.old.held }
     {
-        if (k as usize) < residual.graph.rows().len() {
-            self.improve_by(residual, arc_of(k, Way::Forward));
-            self.improve_by(residual, arc_of(k, Way::Backward));
-        }
-    }
-
-    /// Improves the label to which a residual arc leads.
-    fn improve_by(&mut self, residual: Residual<'_>, arc: ResidualArc)
-        requires sized { IsTreeOf residual self.old }
-        requires arc_in { arc.arc < length residual.graph.now.rows }
-        ensures sized { IsTreeOf residual.entry self.new }
-        ensures held { self.new.held ≡ self.old.held }
-    {
-        if !self.rooms.is_open(end_of(arc)) {
+        if !self.rooms.is_open(end) {
             return;
         }
+        let arc = leaving(end);
         let start = residual.graph.start(arc.arc as usize, arc.way);
-        let end = residual.graph.end(arc.arc as usize, arc.way);
-        let label = self.label_by(residual, arc);
-        if label < self.label(end) {
-            let predecessor = after(end_of(arc), self.predecessor(start).rank);
-            self.improve(residual, end as u32, label, predecessor);
+        let far = residual.graph.end(arc.arc as usize, arc.way);
+        let label = self.label_by(residual, end);
+        if label < self.labels.get(far) {
+            let predecessor = after(end, self.predecessors.get(start).rank);
+            self.improve(residual, far as u32, label, predecessor);
         }
     }
 

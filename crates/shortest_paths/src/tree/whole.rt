@@ -1,13 +1,13 @@
 //! The whole tree of labels mended at once, where much of it changed: labels mostly move in large blocks, which hang together
 //! as before.
 
-ghost use Rattle.std.specs.Prelude.{◌≡◌, ◌<◌, length};
+ghost use Rattle.std.specs.Prelude.{◌≡◌, ◌/◌, ◌<◌, length};
 ghost use Rattle.residual_graph.specs.Walk.{IsWithin};
 ghost use Rattle.shortest_paths.specs.Tree.{IsTreeOf};
 
-use super::{FAR, Tree, after, arc_of, end_of, entry};
+use super::{FAR, Tree, across, after, entry};
 use crate::predecessor::{Predecessor, leaving};
-use residual_graph::{End, Residual, ResidualArc, Walk, Way};
+use residual_graph::{Residual, Walk};
 
 /// Where more than one node in so many was not reached, residual arcs from nodes that were are looked for.
 const MOST_LEFT: usize = 4;
@@ -48,8 +48,9 @@ impl Tree {
     {
         for v in 1..residual.potentials.len() {
             let label = self.potential(residual, v);
-            if label != self.label(v) {
-                self.put(v, label, self.predecessor(v));
+            if label != self.labels.get(v) {
+                let predecessor = self.predecessors.get(v);
+                self.put(v, label, predecessor);
             }
         }
     }
@@ -63,10 +64,10 @@ impl Tree {
     {
         self.forest.clear();
         for v in 0..residual.potentials.len() {
-            if self.label(v) >= 0 {
+            if self.labels.get(v) >= 0 {
                 self.reach(v as u32, Predecessor::root());
             } else if let Some(above) = self.above(residual, v) {
-                let end = self.predecessor(v).end;
+                let end = self.predecessors.get(v).end;
                 self.forest.join(v as u32, above, end);
             }
         }
@@ -79,12 +80,12 @@ impl Tree {
         requires node { v < length residual.potentials.now }
         ensures { self.new ≡ self.old }
     {
-        let end = self.predecessor(v).end;
+        let end = self.predecessors.get(v).end;
         let link = self.links.link(residual, v, end);
         let above = link.above as usize;
         if above != 0
             && above < self.labels.entries().len()
-            && self.label(above).saturating_add(link.cost) == self.label(v)
+            && self.labels.get(above).saturating_add(link.cost) == self.labels.get(v)
             && self.rooms.is_open(end)
         {
             Some(link.above)
@@ -101,12 +102,10 @@ impl Tree {
     {
         for _ in 0..MOST_ROUNDS {
             let before = self.ready.len();
-            for i in 0..self.noted.places().len() {
-                let k = entry(self.noted.places(), i);
-                self.reach_along(residual, k);
-            }
-            for k in written {
-                self.reach_along(residual, *k);
+            for i in 0..self.changes(written) {
+                if let Some(end) = self.changed_end(residual, written, i) {
+                    self.reach_by(residual, end);
+                }
             }
             if self.ready.len() == before {
                 return;
@@ -114,34 +113,23 @@ impl Tree {
         }
     }
 
-    /// Reaches the nodes to which the residual arcs along an arc lead at their labels.
-    fn reach_along(&mut self, residual: Residual<'_>, k: u32)
+    /// Reaches the node to which the residual arc that leaves at an end leads from one that was reached, at its label.
+    fn reach_by(&mut self, residual: Residual<'_>, end: u32)
         requires sized { IsTreeOf residual self.old }
+        requires end { end / 2 < length residual.graph.now.rows }
         ensures sized { IsTreeOf residual.entry self.new }
         ensures held { self.new.held ≡ self.old.held }
     {
-        if (k as usize) < residual.graph.rows().len() {
-            self.reach_by(residual, arc_of(k, Way::Forward));
-            self.reach_by(residual, arc_of(k, Way::Backward));
-        }
-    }
-
-    /// Reaches the node to which a residual arc leads from one that was reached, at its label.
-    fn reach_by(&mut self, residual: Residual<'_>, arc: ResidualArc)
-        requires sized { IsTreeOf residual self.old }
-        requires arc_in { arc.arc < length residual.graph.now.rows }
-        ensures sized { IsTreeOf residual.entry self.new }
-        ensures held { self.new.held ≡ self.old.held }
-    {
+        let arc = leaving(end);
         let start = residual.graph.start(arc.arc as usize, arc.way);
-        let end = residual.graph.end(arc.arc as usize, arc.way);
-        if self.forest.is_reached(start as u32)
-            && !self.forest.is_reached(end as u32)
-            && self.rooms.is_open(end_of(arc))
-            && self.label_by(residual, arc) == self.label(end)
+        let far = residual.graph.end(arc.arc as usize, arc.way);
+        if self.forest.joint(start as u32).is_reached
+            && !self.forest.joint(far as u32).is_reached
+            && self.rooms.is_open(end)
+            && self.label_by(residual, end) == self.labels.get(far)
         {
-            let rank = self.predecessor(start).rank;
-            self.reach(end as u32, reached(end_of(arc), rank));
+            let predecessor = after(end, self.predecessors.get(start).rank);
+            self.reach(far as u32, predecessor);
             self.reach_joined(residual);
         }
     }
@@ -198,24 +186,16 @@ impl Tree {
         }
         let mut walk = Walk::at(residual.graph, u);
         while let Some(end) = walk.next() {
-            if self.leads_on(residual, u, end) {
-                let rank = self.predecessor(u as usize).rank;
-                self.reach(end.other, reached(end.number, rank));
+            let label = self.labels.get(u as usize).saturating_add(end.cost);
+            if label == self.labels.get(end.other as usize)
+                && !self.forest.joint(end.other).is_reached
+                && self.rooms.is_open(end.number)
+            {
+                let predecessor = after(end.number, self.predecessors.get(u as usize).rank);
+                self.reach(end.other, predecessor);
                 self.reach_joined(residual);
             }
         }
-    }
-
-    /// Whether a node leads to the other node at this end at its label, and that was not reached.
-    fn leads_on(&self, residual: Residual<'_>, u: u32, end: End) -> bool
-        requires sized { IsTreeOf residual self.now }
-        requires node { u < length residual.potentials.now }
-        requires end { IsWithin residual.graph.now end }
-        ensures { end.other < length self.now.labels }
-    {
-        self.label(u as usize).saturating_add(end.cost) == self.label(end.other as usize)
-            && !self.forest.is_reached(end.other)
-            && self.rooms.is_open(end.number)
     }
 
     /// Reaches a node that was not reached from one that was and leads to it at its label, where there is one.
@@ -224,30 +204,18 @@ impl Tree {
         ensures sized { IsTreeOf residual.entry self.new }
         ensures held { self.new.held ≡ self.old.held }
     {
-        if v as usize >= self.labels.entries().len() || self.forest.is_reached(v) {
+        if v as usize >= self.labels.entries().len() || self.forest.joint(v).is_reached {
             return;
         }
         let mut walk = Walk::at(residual.graph, v);
         while let Some(end) = walk.next() {
-            if self.is_led_to(residual, v, end) {
-                let rank = self.predecessor(end.other as usize).rank;
-                self.reach(v, reached(end_of(end.entering()), rank));
+            if self.is_tight(residual, v, end) && self.forest.joint(end.other).is_reached {
+                let rank = self.predecessors.get(end.other as usize).rank;
+                self.reach(v, after(across(end.number), rank));
                 self.reach_joined(residual);
                 return;
             }
         }
-    }
-
-    /// Whether the other node at this end leads to a node at its label, and was reached.
-    fn is_led_to(&self, residual: Residual<'_>, v: u32, end: End) -> bool
-        requires sized { IsTreeOf residual self.now }
-        requires node { v < length residual.potentials.now }
-        requires end { IsWithin residual.graph.now end }
-        ensures { end.other < length self.now.labels }
-    {
-        self.label(end.other as usize).saturating_sub(end.cost) == self.label(v as usize)
-            && self.forest.is_reached(end.other)
-            && self.rooms.is_open(end_of(end.entering()))
     }
 
     /// Reaches a node, and gives it this predecessor, unless its own is of the same residual arc and its rank is as high.
@@ -256,9 +224,13 @@ impl Tree {
         ensures sized { length self.new.labels ≡ length self.old.labels }
         ensures held { self.new.held ≡ self.old.held }
     {
-        let before = self.predecessor(v as usize);
+        let before = self.predecessors.get(v as usize);
         if before.is_open || before.end != predecessor.end || before.rank < predecessor.rank {
-            self.set_predecessor(v as usize, predecessor);
+            let closed = Predecessor {
+                is_open: false,
+                ..predecessor
+            };
+            self.predecessors.set(v as usize, closed);
         }
         self.forest.reach(v);
         self.list(v);
@@ -292,7 +264,7 @@ impl Tree {
         if v as usize >= nodes {
             return;
         }
-        let rank = self.predecessor(v as usize).rank;
+        let rank = self.predecessors.get(v as usize).rank;
         let mut next = self.forest.joint(v).first;
         for _ in 0..nodes {
             if next == 0 || next as usize >= nodes {
@@ -300,7 +272,7 @@ impl Tree {
             }
             let joint = self.forest.joint(next);
             if !joint.is_reached {
-                self.reach(next, reached(joint.end, rank));
+                self.reach(next, after(joint.end, rank));
             }
             next = joint.next;
         }
@@ -314,16 +286,13 @@ impl Tree {
     {
         let nodes = self.labels.entries().len();
         let joint = self.forest.joint(v);
-        if joint.above == 0 || self.forest.is_reached(joint.above) {
+        if joint.above == 0 || self.forest.joint(joint.above).is_reached {
             return;
         }
-        let back = leaving(joint.end).turned();
-        if (v as usize) < nodes
-            && (joint.above as usize) < nodes
-            && self.rooms.is_open(end_of(back))
-        {
-            let rank = self.predecessor(v as usize).rank;
-            self.reach(joint.above, reached(end_of(back), rank));
+        let back = across(joint.end);
+        if (v as usize) < nodes && (joint.above as usize) < nodes && self.rooms.is_open(back) {
+            let rank = self.predecessors.get(v as usize).rank;
+            self.reach(joint.above, after(back, rank));
         }
     }
 
@@ -335,11 +304,12 @@ impl Tree {
         self.ready.clear();
         self.loose.clear();
         for v in 0..self.labels.entries().len() {
-            if !self.forest.is_reached(v as u32)
+            if !self.forest.joint(v as u32).is_reached
                 && self.loose.len() < self.loose.capacity()
                 && self.loose.push(v as u32).is_ok()
             {
-                self.set_label(v, FAR);
+                let predecessor = self.predecessors.get(v);
+                self.put(v, FAR, predecessor);
             }
         }
     }
@@ -351,7 +321,7 @@ impl Tree {
         ensures held { self.new.held ≡ self.old.held }
     {
         for v in 0..residual.potentials.len() {
-            if !self.forest.is_reached(v as u32) {
+            if !self.forest.joint(v as u32).is_reached {
                 self.put(v, 0, Predecessor::open());
                 self.queue(v as u32, 0_i64.saturating_sub(self.potential(residual, v)));
             }
@@ -366,12 +336,4 @@ fn greatest(potentials: &[i64]) -> i64 {
         greatest = greatest.max(potentials[v]);
     }
     greatest
-}
-
-/// The predecessor of a node that was reached from one of this rank, by the residual arc that leaves at this end.
-fn reached(end: u32, rank: u32) -> Predecessor {
-    Predecessor {
-        is_open: false,
-        ..after(end, rank)
-    }
 }

@@ -1,15 +1,15 @@
 use Rattle.std.proofs.Common.{◌≡◌, ◌∙◌, ◌/◌, ◌<◌, ◌+ℤ◌, ℕ, ℤ, List, pos, ap, arith, inl, inr, length, refl, rules, slice_set, subst, sym}
-use Rattle.std.specs.Prelude.{false}
+use Rattle.std.specs.Prelude.{◌<ℤ◌, false}
 use Rattle.std.proofs.lemmas.Int.{ints}
+use Rattle.std.proofs.lemmas.List.{get_or-set_same}
 use Rattle.containers.specs.declared.queue.Waiting.{Waiting}
 use Rattle.containers.specs.Queue.{entry_at, key_at}
 use Rattle.residual_graph.specs.Limits.{entry_limit, potential_floor}
-use Rattle.residual_graph.specs.Residual.{ArePotentials, number_at, start_at}
-use Rattle.residual_graph.specs.Walk.{end_way}
+use Rattle.residual_graph.specs.Residual.{ArePotentials, number_at}
 use Rattle.shortest_paths.specs.declared.predecessor.Predecessor.{Predecessor}
-use Rattle.shortest_paths.specs.Predecessor.{rank_at, root_node}
-use Rattle.shortest_paths.specs.Search.{AreRaised, AreServedFrom, HaveJoined, IsOpen, IsSearch, come_from, open_count}
-use Rattle.shortest_paths.proofs.StepLemmas.{HaveJoined-refl, IsRising, IsUnderway, below_or_not, bounded_rising, certified_raised, fewer, greatest_raised, later_rising, of_tables, potential_in, raised_along, raised_root, rank_fits, rising_after, rising_first, root_or_along, search_along, search_root, underway_after, underway_rising, was_waiting, within_raised}
+use Rattle.shortest_paths.specs.Predecessor.{root_node}
+use Rattle.shortest_paths.specs.Search.{AreRaised, AreServedFrom, HaveJoined, IsOpen, IsSearch, come_from, open_count, rank_before}
+use Rattle.shortest_paths.proofs.StepLemmas.{HaveJoined-refl, IsRising, IsUnderway, below_or_not, bounded_rising, certified_raised, fewer, greatest_raised, later_rising, of_tables, potential_in, node_in, raised_along, raised_root, rank_fits, rising_after, rising_first, root_or_along, search_along, search_root, underway_after, underway_rising, was_waiting, within_raised}
 use Rattle.shortest_paths.proofs.labels.search_labels.Goals as goal
 use Rattle.shortest_paths.proofs.labels.search_labels.Goals.{After-settle}
 
@@ -32,54 +32,51 @@ settle-requires-clause-fits c =
     let same = ap (λ (w : Waiting). w.key) (was_waiting _ _ c.in-Some.node _ taken c.entry-waiting.ensures) in
     omega (arith, ints, potential_in _ _ _ _ _ _ _ _ inv.underway taken inv.rising, same)
 
-pub settle-requires-clause-end : goal.settle-requires-clause-end
-settle-requires-clause-end c = λ below.
-    (let inv = c.loop-node.invariant in
+pub settle-requires-clause-along : goal.settle-requires-clause-along
+settle-requires-clause-along c =
+    let inv = c.loop-node.invariant in
     let taken = c.in-Some.ensures.first in
     let waiting = was_waiting _ _ c.in-Some.node _ taken c.entry-waiting.ensures in
-    let along = root_or_along _ _ _ _ _ _ _ _ inv.underway taken inv.rising (omega (arith, ints, below, ap (λ (w : Waiting). w.key) waiting)) in
-    subst (λ (w : Waiting). w.end / 2 < length c.args.graph.now.rows) (sym waiting) along.crosses.residual.is_arc)
-
-pub settle-requires-clause-low : goal.settle-requires-clause-low
-settle-requires-clause-low c = λ below.
-    (let inv = c.loop-node.invariant in
-    let taken = c.in-Some.ensures.first in
-    let waiting = was_waiting _ _ c.in-Some.node _ taken c.entry-waiting.ensures in
-    let along = root_or_along _ _ _ _ _ _ _ _ inv.underway taken inv.rising (omega (arith, ints, below, ap (λ (w : Waiting). w.key) waiting)) in
-    subst (λ (w : Waiting). rank_at c.loop-node.predecessors (start_at c.args.graph.now.rows (w.end / 2) (end_way w.end)) < entry_limit) (sym waiting)
-    (rank_fits _ _ _ _ _ _ _ _ inv.underway taken along))
+    let along = λ (below : (number_at c.loop-node.potentials c.in-Some.node +ℤ c.entry-waiting.result.key) <ℤ pos 0).
+    root_or_along _ _ _ _ _ _ _ _ inv.underway taken inv.rising (omega (arith, ints, below, ap (λ (w : Waiting). w.key) waiting)) in
+    record {
+      is_arc = λ below. subst (λ (w : Waiting). w.end / 2 < length c.args.graph.now.rows) (sym waiting) (along below).crosses.residual.is_arc;
+      low = λ below. subst (λ (w : Waiting). rank_before c.args.graph.now.rows c.loop-node.predecessors w.end < entry_limit) (sym waiting) (rank_fits _ _ _ _ _ _ _ _ inv.underway taken (along below));
+    }
 
 potentials_are : (c : After-settle) → c.settle.new.potentials ≡ slice_set c.loop-node.potentials c.in-Some.node (number_at c.loop-node.potentials c.in-Some.node +ℤ key_at c.loop-node.queue.entries c.in-Some.node)
 potentials_are c = c.settle.ensures.raised ∙ ap (λ (w : Waiting). slice_set c.loop-node.potentials c.in-Some.node (number_at c.loop-node.potentials c.in-Some.node +ℤ w.key)) (was_waiting _ _ c.in-Some.node _ c.in-Some.ensures.first c.entry-waiting.ensures)
 
 -- how the node was settled: as a root, or along a residual arc
-record IsSettled (c : After-settle) : Type 0 where
+record IsSettledBy (c : After-settle) : Type 0 where
   by : Predecessor
   closed : by.is_open ≡ false
   predecessors_are : c.settle.new.predecessors ≡ slice_set c.loop-node.predecessors c.in-Some.node by
   search : IsSearch c.args.graph.now.rows c.args.flow.now (slice_set c.loop-node.potentials c.in-Some.node (number_at c.loop-node.potentials c.in-Some.node +ℤ key_at c.loop-node.queue.entries c.in-Some.node)) (slice_set c.loop-node.predecessors c.in-Some.node by)
   raised : AreRaised (slice_set c.loop-node.potentials c.in-Some.node (number_at c.loop-node.potentials c.in-Some.node +ℤ key_at c.loop-node.queue.entries c.in-Some.node)) (slice_set c.loop-node.predecessors c.in-Some.node by)
 
-is_settled : (c : After-settle) → IsSettled c
+is_settled : (c : After-settle) → IsSettledBy c
 is_settled c =
     let inv = c.loop-node.invariant in
     let taken = c.in-Some.ensures.first in
     let waiting = was_waiting _ _ c.in-Some.node _ taken c.entry-waiting.ensures in
     let same = ap (λ (w : Waiting). w.key) waiting in
+    let here = ap (λ (l : List ℤ). number_at l c.in-Some.node) c.settle.ensures.raised
+    ∙ get_or-set_same c.loop-node.potentials c.in-Some.node (number_at c.loop-node.potentials c.in-Some.node +ℤ c.entry-waiting.result.key) (pos 0) (omega (arith, node_in _ _ _ _ _ _ _ _ inv.underway taken, inv.underway.search.sized)) in
     elim (below_or_not (number_at c.loop-node.potentials c.in-Some.node +ℤ c.entry-waiting.result.key)) [
       | inl below ↦
           (let along = root_or_along _ _ _ _ _ _ _ _ inv.underway taken inv.rising (omega (arith, ints, below, same)) in
           record {
             by = come_from c.args.graph.now.rows c.loop-node.predecessors (entry_at c.loop-node.queue.entries c.in-Some.node).end;
             closed = refl;
-            predecessors_are = c.settle.ensures.along below ∙ ap (λ (w : Waiting). slice_set c.loop-node.predecessors c.in-Some.node (come_from c.args.graph.now.rows c.loop-node.predecessors w.end)) waiting;
+            predecessors_are = c.settle.ensures.settled.along (omega (arith, ints, below, here)) ∙ ap (λ (w : Waiting). slice_set c.loop-node.predecessors c.in-Some.node (come_from c.args.graph.now.rows c.loop-node.predecessors w.end)) waiting;
             search = search_along _ _ _ _ _ _ _ _ inv.underway taken along;
             raised = raised_along _ _ _ _ _ _ _ _ inv.underway taken inv.rising along;
           })
       | inr high ↦ record {
         by = root_node;
         closed = refl;
-        predecessors_are = c.settle.ensures.root high;
+        predecessors_are = c.settle.ensures.settled.root (omega (arith, ints, high, here));
         search = search_root _ _ _ _ _ _ _ _ inv.underway taken inv.rising;
         raised = raised_root _ _ _ _ _ _ _ _ inv.underway taken inv.rising (omega (arith, ints, high, same));
       }
@@ -94,8 +91,8 @@ potentials_in c =
     subst (λ (p : List ℤ). ArePotentials (length p) potential_floor p) (sym (potentials_are c))
     (rising_after _ _ _ _ _ _ _ _ inv.underway taken inv.rising settled.by settled.closed r (HaveJoined-refl _ _ _ _ r) settled.raised).potentials
 
-pub offer_from-requires-clause-bounded : goal.offer_from-requires-clause-bounded
-offer_from-requires-clause-bounded c = bounded_rising _ (potentials_in (goal.at.offer_from-requires-clause-bounded c).After-settle)
+pub invariant_of-reached-clause-bounded : goal.invariant_of-reached-clause-bounded
+invariant_of-reached-clause-bounded c = bounded_rising _ (potentials_in (goal.at.invariant_of-reached-clause-bounded c).After-settle)
 
 pub loop-node-smaller : goal.loop-node-smaller
 loop-node-smaller c =

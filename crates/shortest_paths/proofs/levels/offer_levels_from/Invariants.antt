@@ -6,7 +6,7 @@ use Rattle.shortest_paths.proofs.levels.offer_levels_from.Given as goal
 abbrev pub invariant-loop-current : goal.invariant-loop-current
 invariant-loop-current l = record {
   sized : length l.queue.entries ≡ length l.initial.queue.entries;
-  stands : IfSome l.current (λ end. end < 2 * length l.graph.rows);
+  stands : IfSome l.current (λ end. end < 2 * length l.on.graph.now.rows);
 }
 
 abbrev pub decreases-loop-current : goal.decreases-loop-current

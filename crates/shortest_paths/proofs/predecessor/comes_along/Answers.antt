@@ -2,8 +2,8 @@ use Rattle.std.proofs.Common.{arith}
 use Rattle.std.proofs.lemmas.Int.{ints}
 use Rattle.shortest_paths.proofs.predecessor.comes_along.Goals as goal
 
-pub reduced_cost-requires-clause-labels : goal.reduced_cost-requires-clause-labels
-reduced_cost-requires-clause-labels c = record {
+pub reduced_along-requires-clause-labels : goal.reduced_along-requires-clause-labels
+reduced_along-requires-clause-labels c = record {
   at_most = λ v. omega (arith, ints, c.requires.labels.at_most_0 v);
   at_least = λ v. omega (arith, ints, c.requires.labels.at_least v);
 }

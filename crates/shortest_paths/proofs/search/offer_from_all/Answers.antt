@@ -13,9 +13,9 @@ loop-v-init c = record {
 pub loop-v-preserved : goal.loop-v-preserved
 loop-v-preserved c = record {
   grown = HaveJoined-trans _ _ _ _ _ _ _ c.loop-v.invariant.grown c.offer_from.ensures.grown;
-  served = λ k way lt at. elim (cases_eq (start_at c.args.graph.now.rows k way) c.loop-v.v) [
+  served = λ k way lt at. elim (cases_eq (start_at c.args.on.graph.now.rows k way) c.loop-v.v) [
     | inl same ↦ c.offer_from.ensures.served k way same at
-    | inr ne ↦ served_still c.args.graph.now.rows c.args.flow.now c.args.potentials.now c.args.predecessors.now _ _ c.offer_from.ensures.grown k way (c.loop-v.invariant.served k way (omega (arith, lt, ne)) at)
+    | inr ne ↦ served_still _ _ _ _ _ _ c.offer_from.ensures.grown k way (c.loop-v.invariant.served k way (omega (arith, lt, ne)) at)
   ];
 }
 

@@ -29,12 +29,6 @@ loop-node-init c =
       found = c.begin_in_excess.ensures.from.no_deficit;
     }
 
-pub offer_from_all-requires-clause-bounded : goal.offer_from_all-requires-clause-bounded
-offer_from_all-requires-clause-bounded c = record {
-  at_most = λ v. omega (arith, ints, c.requires.in_range.at_most_0 v);
-  at_least = λ v. omega (arith, ints, c.requires.in_range.at_least v);
-}
-
 -- the key, as words hold it
 key_is : (w : Waiting) (key : ℤ) → w.key ≡ key → (pos 0 ≤ℤ key) × (key ≤ℤ pos potential_floor) → to_z w64 (of_z w64 w.key) ≡ key
 key_is w key same enough =
@@ -143,13 +137,13 @@ returns-then-is_last-clause-found c =
     (found_after c.args.graph.now.rows c.args.excess.now c.loop-node.predecessors v _ (node_in _ _ _ _ _ _ _ _ inv.underway taken) (inv.underway.opens v taken.was) c.loop-node.found c.first_in_deficit-found.result c.first_in_deficit-found.ensures.some c.first_in_deficit-found.ensures.none inv.found) in
     found_before_end _ _ _ _ _ c.first_in_deficit-found.result (c.is_last.ensures c.if-is_last.true) searched (roots_stepped s) found
 
-pub offer_from-requires-clause-bounded : goal.offer_from-requires-clause-bounded
-offer_from-requires-clause-bounded c =
-    let stepped = is_stepped (goal.at.offer_from-requires-clause-bounded c).After-come_along in
+pub invariant_of-reached-clause-bounded : goal.invariant_of-reached-clause-bounded
+invariant_of-reached-clause-bounded c =
+    let stepped = is_stepped (goal.at.invariant_of-reached-clause-bounded c).After-come_along in
     bounded_climbing _ _ _ stepped.search.sized stepped.climbing
 
-pub offer_from-requires-clause-flow : goal.offer_from-requires-clause-flow
-offer_from-requires-clause-flow c = (is_stepped (goal.at.offer_from-requires-clause-flow c).After-come_along).flow
+pub invariant_of-reached-clause-pseudoflow : goal.invariant_of-reached-clause-pseudoflow
+invariant_of-reached-clause-pseudoflow c = (is_stepped (goal.at.invariant_of-reached-clause-pseudoflow c).After-come_along).flow
 
 pub loop-node-smaller : goal.loop-node-smaller
 loop-node-smaller c =

@@ -7,20 +7,8 @@ invariant-loop-i l = record {
   held : l.self.held ≡ l.initial.self.held;
 }
 
-abbrev pub invariant-loop-k : goal.invariant-loop-k
-invariant-loop-k l = record {
-  sized : length l.self.labels ≡ length l.residual.potentials.now;
-  held : l.self.held ≡ l.initial.self.held;
-}
-
 abbrev pub invariant-loop-i-2 : goal.invariant-loop-i-2
 invariant-loop-i-2 l = record {
-  sized : length l.self.labels ≡ length l.residual.potentials.now;
-  held : l.self.held ≡ l.initial.self.held;
-}
-
-abbrev pub invariant-loop-k-2 : goal.invariant-loop-k-2
-invariant-loop-k-2 l = record {
   sized : length l.self.labels ≡ length l.residual.potentials.now;
   held : l.self.held ≡ l.initial.self.held;
 }

@@ -12,9 +12,3 @@ invariant-loop-i l = record {
   sized : length l.self.labels ≡ length l.residual.potentials.now;
   held : l.self.held ≡ l.initial.self.held;
 }
-
-abbrev pub invariant-loop-k : goal.invariant-loop-k
-invariant-loop-k l = record {
-  sized : length l.self.labels ≡ length l.residual.potentials.now;
-  held : l.self.held ≡ l.initial.self.held;
-}

@@ -1,7 +1,7 @@
 use Rattle.std.proofs.Common.{arith}
 use Rattle.std.proofs.lemmas.Int.{ints}
 use Rattle.residual_graph.proofs.RowLemmas.{cost_of-bounds}
-use Rattle.shortest_paths.proofs.predecessor.reduced_cost.Goals as goal
+use Rattle.shortest_paths.proofs.predecessor.reduced_along.Goals as goal
 
 pub overflow_sub-result : goal.overflow_sub-result
 overflow_sub-result c =
