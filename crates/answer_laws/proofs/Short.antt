@@ -19,7 +19,7 @@ use Rattle.flow_solver.specs.Answer.{IsAnswered, IsVerdict, IsInfeasibleMoment}
 use Rattle.flow_solver.specs.declared.verdict.Verdict.{Verdict}
 use Rattle.flow_solver.specs.declared.verdict.Verdict.TheVariants.{Best, Infeasible}
 use Rattle.flow_solver.proofs.AnswerLemmas.{verdict_fits}
-use Rattle.checker.specs.Check.{IsRight, mark_all, marks_of}
+use Rattle.checker.specs.Check.{IsRight, listed_marks, mark_all}
 use Rattle.engines.specs.Printing as printing
 use Rattle.engines.specs.Printing.{solution, solution_by}
 use Rattle.answer_laws.specs.Text.{cut_lines, cut_written, ids_from}
@@ -141,7 +141,7 @@ module _ (problem : ProblemValue) (m : Moment) (d : ℤ) (room : ℕ) (is : m.in
   one_a_node : length m.cut ≡ problem.nodes
   one_a_node = answered.sized.one_mark ∙ ap (λ (J : Instance). J.nodes) is
 
-  marks_are : marks_of problem.nodes (ids_from 1 m.cut) ≡ m.cut
+  marks_are : listed_marks problem.nodes (ids_from 1 m.cut) ≡ m.cut
   marks_are = ap (λ (n : ℕ). mark_all (replicate n false) (ids_from 1 m.cut)) (sym one_a_node) ∙ marked [] m.cut
 
   printed : solution true m ≡ cut_written d m.cut

@@ -16,7 +16,7 @@ use Rattle.dimacs_text.specs.declared.problem.Kind.TheVariants.{Min}
 use Rattle.dimacs_text.specs.declared.problem.NodeMark.{NodeMark}
 use Rattle.dimacs_text.specs.declared.problem.TheConstants.{NODE_LIMIT, ARC_LIMIT, CAP_LIMIT, COST_LIMIT, SUPPLY_LIMIT}
 use Rattle.dimacs_text.specs.Lawful.{IsLawfulMark, IsLawfulRow, IsProblem, IsSupply, IsWithin, NamesOthers}
-use Rattle.c_calls.specs.Arrays.{AreFaultless, mark_at, marks_of, row_at, rows_of, test_bound, test_counts, test_integer, test_natural, test_row}
+use Rattle.c_calls.specs.Arrays.{AreFaultless, array_row, array_rows, mark_at, supply_marks, test_bound, test_counts, test_integer, test_natural, test_row}
 use Rattle.c_calls.specs.declared.arrays.Arrays.{Arrays}
 
 -- ---- tests that pass
@@ -91,21 +91,21 @@ row_lawful nodes row passes =
 
 -- ---- the problem of arrays without a fault
 
-mark-at : (supply : List ℤ) (place : ℕ) (d : NodeMark) → place < length (marks_of supply) → slice_index_or (marks_of supply) place d ≡ mark_at supply place
+mark-at : (supply : List ℤ) (place : ℕ) (d : NodeMark) → place < length (supply_marks supply) → slice_index_or (supply_marks supply) place d ≡ mark_at supply place
 mark-at supply place d within =
     get_or-map-range_with_len (mark_at supply) 0 (length supply) place place d (omega (arith, length-map-range_with_len (mark_at supply) 0 (length supply))) (omega arith)
 
-row-at : (a : Arrays) (place : ℕ) (d : ArcRow) → place < length (rows_of a) → slice_index_or (rows_of a) place d ≡ row_at a place
+row-at : (a : Arrays) (place : ℕ) (d : ArcRow) → place < length (array_rows a) → slice_index_or (array_rows a) place d ≡ array_row a place
 row-at a place d within =
-    get_or-map-range_with_len (row_at a) 0 (length a.tail.now) place place d (omega (arith, length-map-range_with_len (row_at a) 0 (length a.tail.now))) (omega arith)
+    get_or-map-range_with_len (array_row a) 0 (length a.tail.now) place place d (omega (arith, length-map-range_with_len (array_row a) 0 (length a.tail.now))) (omega arith)
 
-marks_count : (supply : List ℤ) → length (marks_of supply) ≡ length supply
+marks_count : (supply : List ℤ) → length (supply_marks supply) ≡ length supply
 marks_count supply = length-map-range_with_len (mark_at supply) 0 (length supply)
 
-rows_count : (a : Arrays) → length (rows_of a) ≡ length a.tail.now
-rows_count a = length-map-range_with_len (row_at a) 0 (length a.tail.now)
+rows_count : (a : Arrays) → length (array_rows a) ≡ length a.tail.now
+rows_count a = length-map-range_with_len (array_row a) 0 (length a.tail.now)
 
-each_mark : (a : Arrays) → AreFaultless a → All (IsLawfulMark (length a.supply.now)) (marks_of a.supply.now)
+each_mark : (a : Arrays) → AreFaultless a → All (IsLawfulMark (length a.supply.now)) (supply_marks a.supply.now)
 each_mark a faultless place d within =
     let inside : place < length a.supply.now = omega (arith, marks_count a.supply.now) in
     rw (mark-at a.supply.now place d within) (record {
@@ -113,19 +113,19 @@ each_mark a faultless place d within =
       supply = integer_within SUPPLY_LIMIT _ (faultless.supplies place inside);
     })
 
-once : (supply : List ℤ) → AllPairs NamesOthers (marks_of supply)
+once : (supply : List ℤ) → AllPairs NamesOthers (supply_marks supply)
 once supply i j d before within =
     rw (mark-at supply i d (omega arith), mark-at supply j d within) (λ e. absurd (omega arith))
 
-each_row : (a : Arrays) → AreFaultless a → All (IsLawfulRow (length a.supply.now)) (rows_of a)
+each_row : (a : Arrays) → AreFaultless a → All (IsLawfulRow (length a.supply.now)) (array_rows a)
 each_row a faultless place d within =
     let inside : place < length a.tail.now = omega (arith, rows_count a) in
-    rw (row-at a place d within) (row_lawful (length a.supply.now) (row_at a place) (faultless.arcs place inside))
+    rw (row-at a place d within) (row_lawful (length a.supply.now) (array_row a place) (faultless.arcs place inside))
 
-supplies_alone : (supply : List ℤ) → All IsSupply (marks_of supply)
+supplies_alone : (supply : List ℤ) → All IsSupply (supply_marks supply)
 supplies_alone supply place d within = rw (mark-at supply place d within) tt
 
-pub is_problem : (a : Arrays) → AreFaultless a → IsProblem Min (length a.supply.now) (marks_of a.supply.now) (rows_of a)
+pub is_problem : (a : Arrays) → AreFaultless a → IsProblem Min (length a.supply.now) (supply_marks a.supply.now) (array_rows a)
 is_problem a faultless =
     let counts = counts_within (length a.supply.now) (length a.tail.now) faultless.counts in
     record {

@@ -29,8 +29,8 @@ use Rattle.dimacs_text.specs.Lawful.{IsLawfulRow}
 use Rattle.dimacs_text.specs.Reading.{problem_rule, reads}
 use Rattle.dimacs_text.proofs.ProblemLemmas.{parsed_of_push}
 use Rattle.dimacs_text.proofs.ReadLemmas.{reads_ok, parsed_of_nothing}
-use Rattle.c_calls.specs.ArrayText.{FitTheirTypes, arc_line, arc_line_at, arc_lines, line_of, node_line, node_line_at, node_lines, size_line, text_of}
-use Rattle.c_calls.specs.Arrays.{AreFaultless, AreSuppliesFaultless, FailsBy, IsArcFault, IsCountFault, IsEven, IsFirstFault, IsNodeFault, mark_at, problem_of, row_at, test_bound, test_counts, test_integer, test_natural, test_row}
+use Rattle.c_calls.specs.ArrayText.{FitTheirTypes, arc_line, arc_line_at, arc_lines, array_text, fault_line, node_line, node_line_at, node_lines, size_line}
+use Rattle.c_calls.specs.Arrays.{AreFaultless, AreSuppliesFaultless, FailsBy, IsArcFault, IsCountFault, IsEven, IsFirstFault, IsNodeFault, array_row, mark_at, problem_of, test_bound, test_counts, test_integer, test_natural, test_row}
 use Rattle.c_calls.specs.declared.array_fault.ArrayFault.{ArrayFault}
 use Rattle.c_calls.specs.declared.arrays.Arrays.{Arrays}
 use Rattle.c_calls.proofs.ArrayLemmas.{bound_within, counts_within, integer_within, row_lawful}
@@ -255,7 +255,7 @@ module _ (a : Arrays) (even : IsEven a) (fit : FitTheirTypes a) where
   marks_upto n = upto (mark_at a.supply.now) n
 
   abbrev rows_upto : ℕ → List ArcRow
-  rows_upto n = upto (row_at a) n
+  rows_upto n = upto (array_row a) n
 
   abbrev node_lines_upto : ℕ → List Line
   node_lines_upto n = upto (node_line_at a.supply.now) n
@@ -266,7 +266,7 @@ module _ (a : Arrays) (even : IsEven a) (fit : FitTheirTypes a) where
   abbrev supply_in : ℕ → ℤ
   supply_in place = slice_index_or a.supply.now place (pos 0)
 
-  row_fits : (place : ℕ) → place < arcs → FitsItsTypes (row_at a place)
+  row_fits : (place : ℕ) → place < arcs → FitsItsTypes (array_row a place)
   row_fits place within = record {
     tail = fit.tails place 0 within;
     head = fit.heads place 0 (omega (arith, even.heads));
@@ -286,10 +286,10 @@ module _ (a : Arrays) (even : IsEven a) (fit : FitTheirTypes a) where
     (size_is_line nodes arcs fit.nodes fit.arcs).plain,
     AllPlain-append (node_lines a.supply.now) (arc_lines a)
         (upto-plain (node_line_at a.supply.now) nodes (λ i h. (node_line_is i h).plain))
-        (upto-plain (arc_line_at a) arcs (λ i h. (arc_is_line (row_at a i) (row_fits i h)).plain)),
+        (upto-plain (arc_line_at a) arcs (λ i h. (arc_is_line (array_row a i) (row_fits i h)).plain)),
   )
 
-  text_lines : lines_of (text_of a) ≡ all_lines
+  text_lines : lines_of (array_text a) ≡ all_lines
   text_lines = ap lines_of (ended_joined all_lines) ∙ lines_joined all_lines all_plain
 
   -- lines without a fault
@@ -331,44 +331,44 @@ module _ (a : Arrays) (even : IsEven a) (fit : FitTheirTypes a) where
         Reads-along (told nodes arcs [] []) (upto-suc (node_line_at a.supply.now) n) (ap (λ (ms : List NodeMark). told nodes arcs ms []) (upto-suc (mark_at a.supply.now) n))
         (Reads-append (node_lines_upto n) (node_line_at a.supply.now n ∷ []) (told nodes arcs [] []) (told nodes arcs (marks_upto n) []) (told nodes arcs (marks_upto n ++ mark_at a.supply.now n ∷ []) []) before here)
 
-    arc_fault_at : (marks : List NodeMark) (place : ℕ) → place < arcs → line_fault (told nodes arcs marks (rows_upto place)) (arc_line_at a place) ≡ fault_of (test_row nodes (row_at a place))
+    arc_fault_at : (marks : List NodeMark) (place : ℕ) → place < arcs → line_fault (told nodes arcs marks (rows_upto place)) (arc_line_at a place) ≡ fault_of (test_row nodes (array_row a place))
     arc_fault_at marks place within =
-        arc_fault nodes arcs marks (rows_upto place) (row_at a place) (omega (arith, length-map-range_with_len (row_at a) 0 place)) (row_fits place within)
+        arc_fault nodes arcs marks (rows_upto place) (array_row a place) (omega (arith, length-map-range_with_len (array_row a) 0 place)) (row_fits place within)
 
-    arcs_read : (marks : List NodeMark) (n : ℕ) → n ≤ arcs → ((i : ℕ) → i < n → test_row nodes (row_at a i) ≡ Ok tt) → Reads (told nodes arcs marks []) (arc_lines_upto n) (told nodes arcs marks (rows_upto n))
+    arcs_read : (marks : List NodeMark) (n : ℕ) → n ≤ arcs → ((i : ℕ) → i < n → test_row nodes (array_row a i) ≡ Ok tt) → Reads (told nodes arcs marks []) (arc_lines_upto n) (told nodes arcs marks (rows_upto n))
     arcs_read marks zero most pass = refl
     arcs_read marks (suc n) most pass =
         let before = arcs_read marks n (omega arith) (λ i h. pass i (omega arith)) in
         let passes = pass n (omega arith) in
         let fits = row_fits n (omega arith) in
-        let here : Reads (told nodes arcs marks (rows_upto n)) (arc_line_at a n ∷ []) (told nodes arcs marks (rows_upto n ++ row_at a n ∷ [])) = (
-          told nodes arcs marks (rows_upto n ++ row_at a n ∷ []),
-          (arc_is_line (row_at a n) fits).short,
-          no_fault (test_row nodes (row_at a n)) _ (arc_fault_at marks n (omega arith)) passes,
-          arc_parsed nodes arcs marks (rows_upto n) (row_at a n) within_limits.1 (row_lawful nodes (row_at a n) passes) fits,
+        let here : Reads (told nodes arcs marks (rows_upto n)) (arc_line_at a n ∷ []) (told nodes arcs marks (rows_upto n ++ array_row a n ∷ [])) = (
+          told nodes arcs marks (rows_upto n ++ array_row a n ∷ []),
+          (arc_is_line (array_row a n) fits).short,
+          no_fault (test_row nodes (array_row a n)) _ (arc_fault_at marks n (omega arith)) passes,
+          arc_parsed nodes arcs marks (rows_upto n) (array_row a n) within_limits.1 (row_lawful nodes (array_row a n) passes) fits,
           refl,
         ) in
-        Reads-along (told nodes arcs marks []) (upto-suc (arc_line_at a) n) (ap (λ (rs : List ArcRow). told nodes arcs marks rs) (upto-suc (row_at a) n))
-        (Reads-append (arc_lines_upto n) (arc_line_at a n ∷ []) (told nodes arcs marks []) (told nodes arcs marks (rows_upto n)) (told nodes arcs marks (rows_upto n ++ row_at a n ∷ [])) before here)
+        Reads-along (told nodes arcs marks []) (upto-suc (arc_line_at a) n) (ap (λ (rs : List ArcRow). told nodes arcs marks rs) (upto-suc (array_row a) n))
+        (Reads-append (arc_lines_upto n) (arc_line_at a n ∷ []) (told nodes arcs marks []) (told nodes arcs marks (rows_upto n)) (told nodes arcs marks (rows_upto n ++ array_row a n ∷ [])) before here)
 
     size_and_nodes : (n : ℕ) → n ≤ nodes → ((i : ℕ) → i < n → test_integer SUPPLY_LIMIT (supply_in i) ≡ Ok tt) → Reads nothing_told (size_line nodes arcs ∷ node_lines_upto n) (told nodes arcs (marks_upto n) [])
     size_and_nodes n most pass =
         Reads-append (size_line nodes arcs ∷ []) (node_lines_upto n) nothing_told (told nodes arcs [] []) (told nodes arcs (marks_upto n) []) size_reads (nodes_read n most pass)
 
-    and_arcs : ((i : ℕ) → i < nodes → test_integer SUPPLY_LIMIT (supply_in i) ≡ Ok tt) → (n : ℕ) → n ≤ arcs → ((i : ℕ) → i < n → test_row nodes (row_at a i) ≡ Ok tt)
+    and_arcs : ((i : ℕ) → i < nodes → test_integer SUPPLY_LIMIT (supply_in i) ≡ Ok tt) → (n : ℕ) → n ≤ arcs → ((i : ℕ) → i < n → test_row nodes (array_row a i) ≡ Ok tt)
         → Reads nothing_told (size_line nodes arcs ∷ (node_lines a.supply.now ++ arc_lines_upto n)) (told nodes arcs (marks_upto nodes) (rows_upto n))
     and_arcs pass n most passes =
         Reads-append (size_line nodes arcs ∷ node_lines a.supply.now) (arc_lines_upto n) nothing_told (told nodes arcs (marks_upto nodes) []) (told nodes arcs (marks_upto nodes) (rows_upto n))
         (size_and_nodes nodes (omega arith) pass) (arcs_read (marks_upto nodes) n most passes)
 
-  pub text_read : AreFaultless a → reads (text_of a) ≡ Ok (problem_of a)
+  pub text_read : AreFaultless a → reads (array_text a) ≡ Ok (problem_of a)
   text_read without =
       let all = and_arcs without.counts without.supplies arcs (omega arith) without.arcs in
       let end = told nodes arcs (marks_upto nodes) (rows_upto arcs) in
       let none = faultless [] all_lines nothing_told end (sym parsed_of_nothing) all in
       let parsed = parsed_at_end [] all_lines nothing_told end (sym parsed_of_nothing) all in
-      reads_ok (text_of a) end (problem_of a) (ap (λ (ls : List Line). first_fault problem_rule [] ls) text_lines ∙ none)
-      (sym (ap (λ (ls : List Line). parsed_of ls) text_lines ∙ parsed)) (rw (length-map-range_with_len (row_at a) 0 arcs, not_below arcs) refl)
+      reads_ok (array_text a) end (problem_of a) (ap (λ (ls : List Line). first_fault problem_rule [] ls) text_lines ∙ none)
+      (sym (ap (λ (ls : List Line). parsed_of ls) text_lines ∙ parsed)) (rw (length-map-range_with_len (array_row a) 0 arcs, not_below arcs) refl)
 
   -- the first line with a fault
 
@@ -376,55 +376,55 @@ module _ (a : Arrays) (even : IsEven a) (fit : FitTheirTypes a) where
   counted_is n small = omega arith
 
   fault_read : (ls : List Line) (l : Line) (rest : List Line) (s : Parsed) (number at : ℕ) → all_lines ≡ ls ++ l ∷ rest → Reads nothing_told ls s → is_too_long l ≡ false
-      → line_fault s l ≡ Some number → length ls + 1 ≡ at → at < 2 ^ 64 → reads (text_of a) ≡ Err (text_fault.Fault number at)
+      → line_fault s l ≡ Some number → length ls + 1 ≡ at → at < 2 ^ 64 → reads (array_text a) ≡ Err (text_fault.Fault number at)
   unfolding reads
   fault_read ls l rest s number at split r short found count small =
       let first = faulty [] ls l rest nothing_told s number at (sym parsed_of_nothing) r short found (omega arith) in
       rw (text_lines, split, first, counted_is at small) refl
 
-  count_fault_read : (f : ArrayFault) → IsCountFault a f → reads (text_of a) ≡ Err (text_fault.Fault f.number (line_of a f))
+  count_fault_read : (f : ArrayFault) → IsCountFault a f → reads (array_text a) ≡ Err (text_fault.Fault f.number (fault_line a f))
   count_fault_read f is =
-      let line : 1 ≡ line_of a f = rw (same_number f.arc 0 is.arc) (omega (arith, is.node)) in
-      fault_read [] (size_line nodes arcs) (node_lines a.supply.now ++ arc_lines a) nothing_told f.number (line_of a f) refl refl
+      let line : 1 ≡ fault_line a f = rw (same_number f.arc 0 is.arc) (omega (arith, is.node)) in
+      fault_read [] (size_line nodes arcs) (node_lines a.supply.now ++ arc_lines a) nothing_told f.number (fault_line a f) refl refl
       (size_is_line nodes arcs fit.nodes fit.arcs).short (the_fault (in_line (test_counts nodes arcs)) _ f.number (size_fault nodes arcs fit.nodes fit.arcs) is.number)
       line (omega arith)
 
-  node_fault_read : (f : ArrayFault) → test_counts nodes arcs ≡ Ok tt → IsNodeFault a.supply.now f → reads (text_of a) ≡ Err (text_fault.Fault f.number (line_of a f))
+  node_fault_read : (f : ArrayFault) → test_counts nodes arcs ≡ Ok tt → IsNodeFault a.supply.now f → reads (array_text a) ≡ Err (text_fault.Fault f.number (fault_line a f))
   node_fault_read f counts is =
       let place = is.place in
       let limits = within_limits counts in
       let lines = length-map-range_with_len (node_line_at a.supply.now) 0 place in
-      let line : length (size_line nodes arcs ∷ node_lines_upto place) + 1 ≡ line_of a f = rw (same_number f.arc 0 is.arc) (omega (arith, is.node, lines)) in
+      let line : length (size_line nodes arcs ∷ node_lines_upto place) + 1 ≡ fault_line a f = rw (same_number f.arc 0 is.arc) (omega (arith, is.node, lines)) in
       let within = is.within in
-      let small : line_of a f < 2 ^ 64 = omega (arith, line, lines, within, limits.1) in
+      let small : fault_line a f < 2 ^ 64 = omega (arith, line, lines, within, limits.1) in
       let rest = drop (suc place) (node_lines a.supply.now) in
       let split : all_lines ≡ (size_line nodes arcs ∷ node_lines_upto place) ++ node_line_at a.supply.now place ∷ (rest ++ arc_lines a) =
       ap (λ (ls : List Line). size_line nodes arcs ∷ (ls ++ arc_lines a)) (upto-split (node_line_at a.supply.now) nodes place within)
       ∙ ap (λ (ls : List Line). size_line nodes arcs ∷ ls) (append_assoc (node_lines_upto place) (node_line_at a.supply.now place ∷ rest) (arc_lines a)) in
-      fault_read (size_line nodes arcs ∷ node_lines_upto place) (node_line_at a.supply.now place) (rest ++ arc_lines a) (told nodes arcs (marks_upto place) []) f.number (line_of a f) split
+      fault_read (size_line nodes arcs ∷ node_lines_upto place) (node_line_at a.supply.now place) (rest ++ arc_lines a) (told nodes arcs (marks_upto place) []) f.number (fault_line a f) split
       (size_and_nodes counts place (omega arith) is.before) (node_line_is place within).short
       (the_fault (in_line (test_integer SUPPLY_LIMIT (supply_in place))) _ f.number (node_fault_at counts place within) is.number) line small
 
-  arc_fault_read : (f : ArrayFault) → test_counts nodes arcs ≡ Ok tt → AreSuppliesFaultless a.supply.now → IsArcFault a f → reads (text_of a) ≡ Err (text_fault.Fault f.number (line_of a f))
+  arc_fault_read : (f : ArrayFault) → test_counts nodes arcs ≡ Ok tt → AreSuppliesFaultless a.supply.now → IsArcFault a f → reads (array_text a) ≡ Err (text_fault.Fault f.number (fault_line a f))
   arc_fault_read f counts supplies is =
       let place = is.place in
       let limits = within_limits counts in
       let of_nodes = length-map-range_with_len (node_line_at a.supply.now) 0 nodes in
       let of_arcs = length-map-range_with_len (arc_line_at a) 0 place in
       let some : (f.arc == 0) ≡ false = ne_eqb f.arc 0 (omega (arith, is.arc)) in
-      let line : length (size_line nodes arcs ∷ (node_lines a.supply.now ++ arc_lines_upto place)) + 1 ≡ line_of a f =
+      let line : length (size_line nodes arcs ∷ (node_lines a.supply.now ++ arc_lines_upto place)) + 1 ≡ fault_line a f =
       rw some (omega (arith, is.arc, of_nodes, of_arcs, length-append (node_lines a.supply.now) (arc_lines_upto place))) in
       let within = is.within in
-      let small : line_of a f < 2 ^ 64 = omega (arith, line, of_nodes, of_arcs, length-append (node_lines a.supply.now) (arc_lines_upto place), within, limits.1, limits.2) in
+      let small : fault_line a f < 2 ^ 64 = omega (arith, line, of_nodes, of_arcs, length-append (node_lines a.supply.now) (arc_lines_upto place), within, limits.1, limits.2) in
       let rest = drop (suc place) (arc_lines a) in
       let split : all_lines ≡ (size_line nodes arcs ∷ (node_lines a.supply.now ++ arc_lines_upto place)) ++ arc_line_at a place ∷ rest =
       ap (λ (ls : List Line). size_line nodes arcs ∷ (node_lines a.supply.now ++ ls)) (upto-split (arc_line_at a) arcs place within)
       ∙ ap (λ (ls : List Line). size_line nodes arcs ∷ ls) (sym (append_assoc (node_lines a.supply.now) (arc_lines_upto place) (arc_line_at a place ∷ rest))) in
-      fault_read (size_line nodes arcs ∷ (node_lines a.supply.now ++ arc_lines_upto place)) (arc_line_at a place) rest (told nodes arcs (marks_upto nodes) (rows_upto place)) f.number (line_of a f) split
-      (and_arcs counts supplies place (omega arith) is.before) (arc_is_line (row_at a place) (row_fits place within)).short
-      (the_fault (test_row nodes (row_at a place)) _ f.number (arc_fault_at counts (marks_upto nodes) place within) is.number) line small
+      fault_read (size_line nodes arcs ∷ (node_lines a.supply.now ++ arc_lines_upto place)) (arc_line_at a place) rest (told nodes arcs (marks_upto nodes) (rows_upto place)) f.number (fault_line a f) split
+      (and_arcs counts supplies place (omega arith) is.before) (arc_is_line (array_row a place) (row_fits place within)).short
+      (the_fault (test_row nodes (array_row a place)) _ f.number (arc_fault_at counts (marks_upto nodes) place within) is.number) line small
 
-  pub fault_text : (f : ArrayFault) → IsFirstFault a f → reads (text_of a) ≡ Err (text_fault.Fault f.number (line_of a f))
+  pub fault_text : (f : ArrayFault) → IsFirstFault a f → reads (array_text a) ≡ Err (text_fault.Fault f.number (fault_line a f))
   fault_text f is = elim is [
     | inl of_counts ↦ count_fault_read f of_counts
     | inr later ↦ elim later [

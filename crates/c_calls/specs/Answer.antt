@@ -11,26 +11,26 @@ use Rattle.c_calls.specs.Library.{CertifyFlow, IsOpeningOf, IsViewOf, NoneIsLega
 use Rattle.c_calls.specs.declared.answer.Answer.{Answer}
 
 -- room for each list of the problem's answer
-pub record HasRoom (problem : ProblemValue) (answer : Answer) : Type 0 where
+pub record HasRoomFor (problem : ProblemValue) (answer : Answer) : Type 0 where
   pub flow : length problem.arcs ≤ length answer.flow.now
   pub potentials : problem.nodes ≤ length answer.potentials.now
   pub cut : problem.nodes ≤ length answer.cut.now
 
 -- a list at the start of a room
-abbrev pub filled : {T : Type 0} → List T → List T → List T
-filled list room = list ++ drop (length list) room
+abbrev pub written_over : {T : Type 0} → List T → List T → List T
+written_over list room = list ++ drop (length list) room
 
 -- a best flow is in its room, and potentials that certify it
 pub record IsBestGiven (m : Moment) (old new : Answer) : Type 0 where
-  pub flow_is : new.flow.now ≡ filled (flow_of m) old.flow.now
-  pub potentials_are : new.potentials.now ≡ filled m.potentials old.potentials.now
+  pub flow_is : new.flow.now ≡ written_over (flow_of m) old.flow.now
+  pub potentials_are : new.potentials.now ≡ written_over m.potentials old.potentials.now
   pub cut_stays : new.cut.now ≡ old.cut.now
   pub best : IsBest m.instance (flow_of m)
   pub certified : CertifyFlow m.potentials m
 
 -- a cut is in its room that is a breach by the shortage, and no flow is legal
 pub record IsCutGiven (m : Moment) (shortage : ℤ) (old new : Answer) : Type 0 where
-  pub cut_is : new.cut.now ≡ filled m.cut old.cut.now
+  pub cut_is : new.cut.now ≡ written_over m.cut old.cut.now
   pub flow_stays : new.flow.now ≡ old.flow.now
   pub potentials_stay : new.potentials.now ≡ old.potentials.now
   pub breach : IsBreach m.instance (is_marked m.cut) shortage
@@ -48,7 +48,7 @@ IsGiven m old new = IsGivenBy m.verdict m old new
 pub record IsProblemSolved (problem : ProblemValue) (old new : Answer) : Type 0 where
   pub session : SessionState
   pub opening : IsOpeningOf problem 0 session
-  pub room : HasRoom problem old
+  pub room : HasRoomFor problem old
   pub view : IsViewOf session.moments new.view
   pub lists : IsGiven session.moments.present old new
 
@@ -60,7 +60,7 @@ pub record IsSolved (text : List ℕ) (old new : Answer) : Type 0 where
 
 -- the problem's lists have no room, and its sizes are told
 pub record IsProblemTooLong (problem : ProblemValue) (old new : Answer) : Type 0 where
-  pub no_room : HasRoom problem old → ⊥
+  pub no_room : HasRoomFor problem old → ⊥
   pub sizes : new.view ≡ record old.view { nodes = problem.nodes; arcs = length problem.arcs }
 
 -- the problem of the text is told so

@@ -5,7 +5,7 @@ use Rattle.std.specs.List.{range_with_len}
 use Rattle.dimacs_lines.specs.Fields.{Word}
 use Rattle.dimacs_lines.specs.Lines.{Line}
 use Rattle.dimacs_text.specs.declared.problem.ArcRow.{ArcRow}
-use Rattle.c_calls.specs.Arrays.{row_at}
+use Rattle.c_calls.specs.Arrays.{array_row}
 use Rattle.c_calls.specs.declared.array_fault.ArrayFault.{ArrayFault}
 use Rattle.c_calls.specs.declared.arrays.Arrays.{Arrays}
 
@@ -31,7 +31,7 @@ abbrev pub node_line_at : List ℤ → ℕ → Line
 node_line_at supply place = node_line (place + 1) (slice_index_or supply place (pos 0))
 
 abbrev pub arc_line_at : Arrays → ℕ → Line
-arc_line_at a place = arc_line (row_at a place)
+arc_line_at a place = arc_line (array_row a place)
 
 abbrev pub node_lines : List ℤ → List Line
 node_lines supply = map (node_line_at supply) (range_with_len 0 (length supply))
@@ -40,12 +40,12 @@ abbrev pub arc_lines : Arrays → List Line
 arc_lines a = map (arc_line_at a) (range_with_len 0 (length a.tail.now))
 
 -- the problem line, the node lines and the arc lines, each with its line feed
-abbrev pub text_of : Arrays → List ℕ
-text_of a = flat_map (λ line. line ++ codes "\n") (size_line (length a.supply.now) (length a.tail.now) ∷ (node_lines a.supply.now ++ arc_lines a))
+abbrev pub array_text : Arrays → List ℕ
+array_text a = flat_map (λ line. line ++ codes "\n") (size_line (length a.supply.now) (length a.tail.now) ∷ (node_lines a.supply.now ++ arc_lines a))
 
 -- the line of what has a fault
-abbrev pub line_of : Arrays → ArrayFault → ℕ
-line_of a f = if f.arc == 0 then 1 + f.node else 1 + length a.supply.now + f.arc
+abbrev pub fault_line : Arrays → ArrayFault → ℕ
+fault_line a f = if f.arc == 0 then 1 + f.node else 1 + length a.supply.now + f.arc
 
 -- the numbers are such as their types hold
 pub record FitTheirTypes (a : Arrays) : Type 0 where

@@ -30,8 +30,8 @@ pub record IsEven (a : Arrays) : Type 0 where
   pub costs : length a.cost.now ≡ length a.tail.now
 
 -- the arc in a place
-abbrev pub row_at : Arrays → ℕ → ArcRow
-row_at a place = record {
+abbrev pub array_row : Arrays → ℕ → ArcRow
+array_row a place = record {
   tail = slice_index_or a.tail.now place 0;
   head = slice_index_or a.head.now place 0;
   low = slice_index_or a.low.now place (pos 0);
@@ -39,19 +39,19 @@ row_at a place = record {
   cost = slice_index_or a.cost.now place (pos 0);
 }
 
-abbrev pub rows_of : Arrays → List ArcRow
-rows_of a = map (row_at a) (range_with_len 0 (length a.tail.now))
+abbrev pub array_rows : Arrays → List ArcRow
+array_rows a = map (array_row a) (range_with_len 0 (length a.tail.now))
 
 -- what a node line says of the node whose supply is in a place
 abbrev pub mark_at : List ℤ → ℕ → NodeMark
 mark_at supply place = Supply (place + 1) (slice_index_or supply place (pos 0))
 
-abbrev pub marks_of : List ℤ → List NodeMark
-marks_of supply = map (mark_at supply) (range_with_len 0 (length supply))
+abbrev pub supply_marks : List ℤ → List NodeMark
+supply_marks supply = map (mark_at supply) (range_with_len 0 (length supply))
 
 -- a node for each supply, and the arcs between them
 abbrev pub problem_of : Arrays → ProblemValue
-problem_of a = record { kind = Min; nodes = length a.supply.now; marks = marks_of a.supply.now; arcs = rows_of a }
+problem_of a = record { kind = Min; nodes = length a.supply.now; marks = supply_marks a.supply.now; arcs = array_rows a }
 
 -- ---- faults
 
@@ -88,7 +88,7 @@ abbrev pub AreSuppliesFaultless : List ℤ → Type 0
 AreSuppliesFaultless supply = (place : ℕ) → place < length supply → test_integer SUPPLY_LIMIT (slice_index_or supply place (pos 0)) ≡ Ok tt
 
 abbrev pub AreArcsFaultless : Arrays → Type 0
-AreArcsFaultless a = (place : ℕ) → place < length a.tail.now → test_row (length a.supply.now) (row_at a place) ≡ Ok tt
+AreArcsFaultless a = (place : ℕ) → place < length a.tail.now → test_row (length a.supply.now) (array_row a place) ≡ Ok tt
 
 pub record AreFaultless (a : Arrays) : Type 0 where
   pub counts : AreCountsFaultless a
@@ -121,8 +121,8 @@ pub record IsArcFault (a : Arrays) (f : ArrayFault) : Type 0 where
   pub within : place < length a.tail.now
   pub node : f.node ≡ 0
   pub arc : f.arc ≡ place + 1
-  pub before : (i : ℕ) → i < place → test_row (length a.supply.now) (row_at a i) ≡ Ok tt
-  pub number : FailsBy (test_row (length a.supply.now) (row_at a place)) f.number
+  pub before : (i : ℕ) → i < place → test_row (length a.supply.now) (array_row a i) ≡ Ok tt
+  pub number : FailsBy (test_row (length a.supply.now) (array_row a place)) f.number
 
 -- counts come before supplies, and these before arcs
 abbrev pub IsFirstFault : Arrays → ArrayFault → Type 0

@@ -28,7 +28,7 @@ ReadsAs (Ok problem) text = reads text ≡ Ok problem
 ReadsAs (Err (text_fault.Fault number line)) text = reads text ≡ Err (text_fault.Fault number line)
 ReadsAs (Err text_fault.Memory) text = Unit {0}
 
--- a fault is told by its status, and put where C looks for it; for want of memory nothing is put there
+-- a fault is reply_number by its status, and put where C looks for it; for want of memory nothing is put there
 abbrev pub IsToldAs : TextFault → ℤ → Fault → Fault → Type 0
 IsToldAs (text_fault.Fault number line) status old new = (status ≡ FAULT) × (new.number ≡ number) × (new.line ≡ line)
 IsToldAs text_fault.Memory status old new = (status ≡ MEMORY) × (new ≡ old)
@@ -57,23 +57,23 @@ IsNotOpened text status old new = ((status ≡ FAULT) × IsFaultOf text new) ⊎
 
 -- ---- steps
 
--- how a reply is told: nothing to say, or the number of the refusal
-abbrev pub told : Reply → ℕ
-told TellsVerdict = 0
-told (Shows proof) = 0
-told (Refuses number) = number
+-- how a reply is reply_number: nothing to say, or the number of the refusal
+abbrev pub reply_number : Reply → ℕ
+reply_number TellsVerdict = 0
+reply_number (Shows proof) = 0
+reply_number (Refuses number) = number
 
--- a step is taken by which this relation holds, and its reply is told by this number
+-- a step is taken by which this relation holds, and its reply is reply_number by this number
 abbrev pub Steps : (Reply → SessionState → Type 0) → ℕ → SessionState → Type 0
-Steps StepTo number new = (reply : Reply) × (number ≡ told reply) × StepTo reply new
+Steps StepTo number new = (reply : Reply) × (number ≡ reply_number reply) × StepTo reply new
 
--- how it is told of a line, which may make no step
+-- how it is reply_number of a line, which may make no step
 abbrev pub told_of : Option Reply → ℕ
 told_of None = 0
-told_of (Some reply) = told reply
+told_of (Some reply) = reply_number reply
 
 -- a line that asks for something is taken after the lines of the group that stands open, and the reply to the turn that it
--- makes whole is told; any other is refused as no command, and changes nothing
+-- makes whole is reply_number; any other is refused as no command, and changes nothing
 pub record Took (opened : Option (List Line)) (line : Line) (group : Option Gathered) (old : SessionState) (number : ℕ) (new : SessionState) : Type 0 where
   pub asked : asks line ≡ true → (reply : Option Reply) × (number ≡ told_of reply) × TakesLine old opened line reply new group
   pub blank : asks line ≡ false → (number ≡ number_of line_fault.UnknownDesignator) × (new ≡ old) × (group ≡ gathered_in old opened)
@@ -104,7 +104,7 @@ pub record IsViewOf (t : Timeline Moment) (view : View) : Type 0 where
   pub past : view.past ≡ length t.past
   pub future : view.future ≡ length t.future
 
--- what is told of a list that is there or not, for a room of its own length or another
+-- what is reply_number of a list that is there or not, for a room of its own length or another
 abbrev pub given : Bool → ℕ → ℕ → ℤ
 given there count room = if there then (if count == room then pos 0 else OTHER_LENGTH) else NOT_THERE
 
@@ -130,14 +130,14 @@ node_count m = m.instance.nodes
 abbrev pub CertifyFlow : List ℤ → Moment → Type 0
 CertifyFlow potentials m = IsCertified m.instance (flow_of m) (at_node potentials)
 
-abbrev pub AreGreatest : List ℤ → Moment → Type 0
-AreGreatest potentials m = AreGreatestPotentials (reduced m.instance) m.flow (at_node potentials)
+abbrev pub AreGreatestAt : List ℤ → Moment → Type 0
+AreGreatestAt potentials m = AreGreatestPotentials (reduced m.instance) m.flow (at_node potentials)
 
 -- no flow of it is legal
 abbrev pub NoneIsLegal : Moment → Type 0
 NoneIsLegal m = (flow : List ℤ) → IsLegal m.instance flow → ⊥
 
--- the cut is a breach by the shortage that is told, and the one that is chosen
+-- the cut is a breach by the shortage that is reply_number, and the one that is chosen
 abbrev pub IsBreachOf : List Bool → Moment → Type 0
 IsBreachOf cut m = (shortage : ℤ) → m.verdict ≡ Infeasible shortage → IsBreach m.instance (is_marked cut) shortage
 

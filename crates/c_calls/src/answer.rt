@@ -3,7 +3,7 @@
 ghost use Rattle.std.specs.Prelude.{◌≡◌, ◌≢◌, ◌≤◌, ◌↔◌, IsTrue, pos, length};
 ghost use Rattle.session.specs.Session.{present};
 ghost use Rattle.c_calls.specs.Library.{IsFaultOf, IsViewOf};
-ghost use Rattle.c_calls.specs.Answer.{AreListsKept, HasRoom, IsGiven, IsProblemSolved, IsProblemTooLong, IsSameRoom, IsSolved, IsTooShort, filled};
+ghost use Rattle.c_calls.specs.Answer.{AreListsKept, HasRoomFor, IsGiven, IsProblemSolved, IsProblemTooLong, IsSameRoom, IsSolved, IsTooShort, written_over};
 ghost use Rattle.c_calls.specs.declared.status.TheConstants.{FAULT, MEMORY, TOO_SHORT};
 
 use crate::fault::{Fault, tell_refusal};
@@ -77,7 +77,7 @@ fn solve_problem(alloc: Global, problem: &Problem, answer: &mut Answer) -> i32
 
 /// Whether there is room for each list of a problem's answer.
 fn has_room(answer: &Answer, problem: &Problem) -> bool
-    ensures { IsTrue result ↔ HasRoom problem.now answer.now }
+    ensures { IsTrue result ↔ HasRoomFor problem.now answer.now }
 {
     let nodes = problem.nodes() as usize;
     answer.flow.len() >= problem.arcs().len()
@@ -108,7 +108,7 @@ fn give_answer(session: &Session, answer: &mut Answer)
 /// Copies a list to the start of a room.
 fn put<T: Copy>(list: &[T], room: &mut [T])
     requires { length list.now ≤ length room.old }
-    ensures { room.new ≡ filled list.now room.old }
+    ensures { room.new ≡ written_over list.now room.old }
 {
     room[..list.len()].copy_from_slice(list);
 }

@@ -3,7 +3,7 @@
 ghost use Rattle.std.specs.Prelude.{◌≡◌, ◌≤◌, ◌<◌, ◌↔◌, IfErr, IfOk, OnOk, IsTrue, length};
 ghost use Rattle.dimacs_text.specs.declared.problem.TheConstants.{NODE_LIMIT};
 ghost use Rattle.session.specs.Step.{state_of};
-ghost use Rattle.c_calls.specs.Arrays.{AreFaultless, IsEven, IsNotOpenedBy, IsOpeningBy, marks_of, problem_of, row_at, rows_of};
+ghost use Rattle.c_calls.specs.Arrays.{AreFaultless, IsEven, IsNotOpenedBy, IsOpeningBy, array_row, array_rows, problem_of, supply_marks};
 
 use crate::array_fault::{ArrayFault, first_fault};
 use crate::status::{FAULT, MEMORY, OTHER_LENGTH};
@@ -75,7 +75,7 @@ fn is_even(arrays: &Arrays) -> bool
 pub(crate) fn row_at(arrays: &Arrays, place: usize) -> ArcRow
     requires even { IsEven arrays.now }
     requires within { place < length arrays.now.tail.now }
-    ensures { result ≡ row_at arrays.now place }
+    ensures { result ≡ array_row arrays.now place }
 {
     ArcRow {
         tail: arrays.tail[place],
@@ -105,7 +105,7 @@ fn problem_of(alloc: Global, arrays: &Arrays) -> Result<Problem, AllocError>
 /// A mark of each node, with its supply.
 fn marks_of(alloc: Global, supply: &[i64]) -> Result<Vec<NodeMark>, AllocError>
     requires { length supply.now ≤ NODE_LIMIT }
-    ensures { IfOk result (λ marks. marks.items ≡ marks_of supply.now) }
+    ensures { IfOk result (λ marks. marks.items ≡ supply_marks supply.now) }
 {
     let mut marks = Vec::with_capacity(alloc, supply.len())?;
     for (place, value) in supply.iter().enumerate() {
@@ -120,7 +120,7 @@ fn marks_of(alloc: Global, supply: &[i64]) -> Result<Vec<NodeMark>, AllocError>
 /// The arcs, in order.
 fn rows_of(alloc: Global, arrays: &Arrays) -> Result<Vec<ArcRow>, AllocError>
     requires { IsEven arrays.now }
-    ensures { IfOk result (λ rows. rows.items ≡ rows_of arrays.now) }
+    ensures { IfOk result (λ rows. rows.items ≡ array_rows arrays.now) }
 {
     let mut rows = Vec::with_capacity(alloc, arrays.tail.len())?;
     for place in 0..arrays.tail.len() {

@@ -5,7 +5,7 @@ ghost use Rattle.network.specs.Instance.{IsBest};
 ghost use Rattle.flow_solver.specs.Answer.{IsAnswered};
 ghost use Rattle.session.specs.Parts.{flow_of};
 ghost use Rattle.session.specs.Session.{present};
-ghost use Rattle.c_calls.specs.Library.{AreGreatest, CertifyFlow, IsBreachOf, IsChosen, NoneIsLegal, arc_count, given, given_of, has_cut, has_flow, is_feasible, node_count};
+ghost use Rattle.c_calls.specs.Library.{AreGreatestAt, CertifyFlow, IsBreachOf, IsChosen, NoneIsLegal, arc_count, given, given_of, has_cut, has_flow, is_feasible, node_count};
 
 use crate::status::{NOT_THERE, OTHER_LENGTH};
 use flow_solver::Verdict;
@@ -26,7 +26,7 @@ pub fn give_potentials(session: &Session, room: &mut [i64]) -> i32
     ensures status { result ≡ given_of (present session.now) has_flow node_count (length room.old) }
     ensures copied { result ≡ pos 0 → room.new ≡ (present session.now).potentials }
     ensures certified { result ≡ pos 0 → CertifyFlow room.new (present session.now) }
-    ensures greatest { result ≡ pos 0 → AreGreatest room.new (present session.now) }
+    ensures greatest { result ≡ pos 0 → AreGreatestAt room.new (present session.now) }
     ensures unchanged { result ≢ pos 0 → room.new ≡ room.old }
 {
     give(is_feasible(session), session.potentials(), room)

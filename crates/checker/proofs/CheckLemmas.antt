@@ -11,7 +11,7 @@ use Rattle.runs.specs.declared.end.Text.TheVariants as the
 use Rattle.runs.specs.declared.end.End.TheVariants.{Valid, NotValid, WriteFailed}
 use Rattle.runs.specs.declared.read.ReadError.{ReadError}
 use Rattle.runs.specs.declared.read.ReadError.TheVariants as read_error
-use Rattle.runs.specs.Reading.{IsProblemText, ReadsKnown, ReadsWhole, end_of}
+use Rattle.runs.specs.Reading.{IsProblemText, ReadsKnown, ReadsWhole, error_end}
 use Rattle.runs.proofs.SourceLemmas.{appended}
 use Rattle.checker.specs.Check.{Judges, CheckWrites, CheckOnDevices, IsRight, verdict_line}
 
@@ -27,13 +27,13 @@ ReadsKnown-sized nodes arcs n a p q result known count is =
 
 -- the problem was not read
 problem_end : (e : ReadError) (text given answer answer_given : List ℕ) → ReadsWhole (decided problem_rule) reads (Err e) text given
-    → CheckWrites (end_of the.Problem e) text given answer answer_given []
+    → CheckWrites (error_end the.Problem e) text given answer answer_given []
 problem_end (read_error.Text text_fault.Memory) text given answer answer_given is = refl
 problem_end (read_error.Text (text_fault.Fault number line)) text given answer answer_given is = (is, refl)
 problem_end read_error.Source text given answer answer_given is = (is, refl)
 
 pub CheckOnDevices-problem : (e : ReadError) (known : Option (List ℕ)) (count : ℕ) (answer : Option (List ℕ)) (answer_count : ℕ) (before : Option (List ℕ))
-    → ReadsKnown (decided problem_rule) reads (Err e) known count → CheckOnDevices (end_of the.Problem e) known count answer answer_count before before
+    → ReadsKnown (decided problem_rule) reads (Err e) known count → CheckOnDevices (error_end the.Problem e) known count answer answer_count before before
 CheckOnDevices-problem e None count answer answer_count before is = tt
 CheckOnDevices-problem e (Some text) count None answer_count before is = tt
 CheckOnDevices-problem e (Some text) count (Some answer) answer_count None is = tt
@@ -43,7 +43,7 @@ CheckOnDevices-problem e (Some text) count (Some answer) answer_count (Some held
 -- the answer was not read
 answer_end : (e : ReadError) (problem : ProblemValue) (whole came text given : List ℕ) → IsProblemText whole came problem
     → ReadsWhole (decided (answer_rule problem.nodes (length problem.arcs))) (answers problem.nodes (length problem.arcs)) (Err e) text given
-    → CheckWrites (end_of the.Answer e) whole came text given []
+    → CheckWrites (error_end the.Answer e) whole came text given []
 answer_end (read_error.Text text_fault.Memory) problem whole came text given reads is = refl
 answer_end (read_error.Text (text_fault.Fault number line)) problem whole came text given reads is = (problem, reads, is, refl)
 answer_end read_error.Source problem whole came text given reads is = (problem, reads, is, refl)
@@ -51,7 +51,7 @@ answer_end read_error.Source problem whole came text given reads is = (problem, 
 pub CheckOnDevices-answer : (e : ReadError) (problem : ProblemValue) (known : Option (List ℕ)) (count : ℕ) (answer : Option (List ℕ)) (answer_count : ℕ) (before : Option (List ℕ))
     → ReadsKnown (decided problem_rule) reads (Ok problem) known count
     → ReadsKnown (decided (answer_rule problem.nodes (length problem.arcs))) (answers problem.nodes (length problem.arcs)) (Err e) answer answer_count
-    → CheckOnDevices (end_of the.Answer e) known count answer answer_count before before
+    → CheckOnDevices (error_end the.Answer e) known count answer answer_count before before
 CheckOnDevices-answer e problem None count answer answer_count before reads is = tt
 CheckOnDevices-answer e problem (Some whole) count None answer_count before reads is = tt
 CheckOnDevices-answer e problem (Some whole) count (Some text) answer_count None reads is = tt

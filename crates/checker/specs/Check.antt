@@ -37,13 +37,13 @@ mark_all marks [] = marks
 mark_all marks (id ∷ ids) = mark_all (set marks (id - 1) true) ids
 
 -- one mark a node, which says whether the node is listed
-abbrev pub marks_of : ℕ → List ℕ → List Bool
-marks_of nodes ids = mark_all (replicate nodes false) ids
+abbrev pub listed_marks : ℕ → List ℕ → List Bool
+listed_marks nodes ids = mark_all (replicate nodes false) ids
 
 -- a flow with the ends of the arcs, its worth and potentials that certify it; or a breach by so much
 abbrev pub IsRight : ProblemValue → Answer → Type 0
 IsRight problem (Flow value lines potentials) = NameEnds problem.arcs lines × IsBestAnswer (first problem 0) (flow_of_lines lines) potentials value
-IsRight problem (Cut shortage ids) = IsCutAnswer (first problem 0) (marks_of problem.nodes ids) shortage
+IsRight problem (Cut shortage ids) = IsCutAnswer (first problem 0) (listed_marks problem.nodes ids) shortage
 
 -- what a right answer shows: no legal flow is better, or there is none
 abbrev pub Settles : Answer → ProblemValue → Type 0

@@ -3,7 +3,7 @@ ghost use Rattle.std.specs.Prelude.{◌≡◌, ◌-◌, ◌^◌, ◌<◌, ◌↔
 ghost use Rattle.dimacs_io.specs.Calls.{PassesText};
 ghost use Rattle.dimacs_io.specs.Device.{RisesBy, text_over};
 ghost use Rattle.runs.specs.Devices.{UsesSink, UsesSource, answer_failures, answer_whole, flushes_by, problem_failures, problem_whole};
-ghost use Rattle.checker.specs.Check.{CheckOnDevices, NamesEnds, NameEnds, IsRight, Settles, ValidSettles, flow_of_lines, marks_of, verdict_line};
+ghost use Rattle.checker.specs.Check.{CheckOnDevices, NamesEnds, NameEnds, IsRight, Settles, ValidSettles, flow_of_lines, listed_marks, verdict_line};
 
 use dimacs_io::{Broken, Sink, Source, write_all};
 use dimacs_text::{Answer, ArcRow, FlowLine, Problem};
@@ -139,7 +139,7 @@ fn flow_of_lines(alloc: Global, lines: &[FlowLine]) -> Result<Vec<i64>, AllocErr
 
 /// One mark a node, set where the node is listed.
 fn marks_of(alloc: Global, nodes: u32, ids: &[u32]) -> Result<Vec<bool>, AllocError>
-    ensures { IfOk result (λ marks. marks.items ≡ marks_of nodes ids.now) }
+    ensures { IfOk result (λ marks. marks.items ≡ listed_marks nodes ids.now) }
 {
     let mut marks = vec![in alloc; false; nodes as usize]?;
     for id in ids {

@@ -20,7 +20,7 @@ use Rattle.dimacs_text.specs.Turns.{Turn, Turns, and_inside, and_outside, and_tu
 use Rattle.session.specs.Step.{SessionState}
 use Rattle.session.specs.Turns.{asks, gathered_in, turns_by}
 use Rattle.engines.specs.Run.{Answers, AnswersTurns, Run, reply_count, turns_in}
-use Rattle.engines.specs.Serving.{Answered, AnswersLine, Finishes, GoesOn, Output, ServesLine, Stands, StaysPassedOn, Stopped}
+use Rattle.engines.specs.Serving.{Answered, AnswersAll, AnswersLine, GoesOn, Output, ServesLine, Stands, StaysPassedOn, Stopped}
 use Rattle.engines.proofs.FlushLemmas.{RisesBy-more, RisesBy-none}
 use Rattle.engines.proofs.LineLemmas.{IsBeginning-same, IsBeginning-trans}
 
@@ -193,10 +193,10 @@ reply_count-end : (given : List ℕ) → reply_count ((parts_of given).ended ++ 
 reply_count-end given = ap (λ (lines : List Line). length (turns_of lines).whole) (asked_at_end (parts_of given).ended (parts_of given).rest)
 
 -- the last line was served
-pub Finishes-served : {E : Type 0} (r : Result (Unit {0}) E) (first mid last : SessionState) (group : Option Gathered) (given : List ℕ) (before now after : Output)
+pub AnswersAll-served : {E : Type 0} (r : Result (Unit {0}) E) (first mid last : SessionState) (group : Option Gathered) (given : List ℕ) (before now after : Output)
     → Answered first (parts_of given).ended mid before now → ServesLine r mid (turns_in (parts_of given).ended).opened (parts_of given).rest last group now after
-    → Finishes r first given last before after
-Finishes-served (Ok v) first mid last group given before now after done served =
+    → AnswersAll r first given last before after
+AnswersAll-served (Ok v) first mid last group given before now after done served =
     let all = Answered-more first mid last (parts_of given).ended (parts_of given).rest served.text before now after done served.answers served.writes served.flushed in
     record {
       written = all.written;
@@ -204,7 +204,7 @@ Finishes-served (Ok v) first mid last group given before now after done served =
       appends = all.appends;
       flushed = subst (λ (n : ℕ). RisesBy n before.flushes after.flushes) (reply_count-end given) all.flushed;
     }
-Finishes-served (Err e) first mid last group given before now after done served =
+AnswersAll-served (Err e) first mid last group given before now after done served =
     let whole = Answers-more (parts_of given).ended (parts_of given).rest done.written served.text first mid last done.answers served.answers in
     let longer = reply_count-push (parts_of given).ended (parts_of given).rest ∙ ap (λ (n : ℕ). reply_count (parts_of given).ended + n) served.flushed.0 in
     record {

@@ -17,20 +17,20 @@ use Rattle.runs.specs.declared.read.ReadError.TheVariants as read_error
 use Rattle.dimacs_io.specs.declared.device.LastCall.{LastCall}
 use Rattle.dimacs_io.specs.declared.device.LastCall.TheVariants as last
 use Rattle.runs.specs.Devices.{flushes_by, last_by, problem_failures, write_failures}
-use Rattle.runs.specs.Reading.{ReadsKnown, ReadsWhole, end_of}
+use Rattle.runs.specs.Reading.{ReadsKnown, ReadsWhole, error_end}
 use Rattle.engines.specs.Printing.{solution}
-use Rattle.engines.specs.Opening.{IsNotOpened}
+use Rattle.engines.specs.Opening.{EndsWithoutSession}
 use Rattle.engines.specs.Solve.{IsSettled, Solves, Prints, SolveWrites, SolveOnDevices, end_by}
 use Rattle.runs.proofs.SourceLemmas.{appended}
 
 -- the problem was not read
-problem_end : (e : ReadError) (proof : Bool) (text given : List ℕ) → ReadsWhole (decided problem_rule) reads (Err e) text given → SolveWrites (end_of the.Problem e) proof text given []
+problem_end : (e : ReadError) (proof : Bool) (text given : List ℕ) → ReadsWhole (decided problem_rule) reads (Err e) text given → SolveWrites (error_end the.Problem e) proof text given []
 problem_end (read_error.Text text_fault.Memory) proof text given is = refl
 problem_end (read_error.Text (text_fault.Fault number line)) proof text given is = (is, refl)
 problem_end read_error.Source proof text given is = (is, refl)
 
 SolveOnDevices-problem : (e : ReadError) (proof : Bool) (known : Option (List ℕ)) (count : ℕ) (before : Option (List ℕ)) → ReadsKnown (decided problem_rule) reads (Err e) known count
-    → SolveOnDevices (end_of the.Problem e) proof known count before before
+    → SolveOnDevices (error_end the.Problem e) proof known count before before
 SolveOnDevices-problem e proof None count before is = tt
 SolveOnDevices-problem e proof (Some text) count None is = tt
 SolveOnDevices-problem e proof (Some text) count (Some held) is = ([], ap (λ l. Some l) (sym (append-nil held)), problem_end e proof text (take count text) is)
@@ -41,7 +41,7 @@ memory_end proof (Some text) count None = tt
 memory_end proof (Some text) count (Some held) = ([], ap (λ l. Some l) (sym (append-nil held)), refl)
 
 -- no session was opened
-pub SolveOnDevices-unopened : (end : End) (proof : Bool) (known : Option (List ℕ)) (count : ℕ) (before : Option (List ℕ)) → IsNotOpened known count end
+pub SolveOnDevices-unopened : (end : End) (proof : Bool) (known : Option (List ℕ)) (count : ℕ) (before : Option (List ℕ)) → EndsWithoutSession known count end
     → SolveOnDevices end proof known count before before
 SolveOnDevices-unopened end proof known count before (inl ends) = rw ends.1 (SolveOnDevices-problem ends.0 proof known count before ends.2)
 SolveOnDevices-unopened end proof known count before (inr memory) = rw memory (memory_end proof known count before)

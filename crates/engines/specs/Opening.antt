@@ -11,7 +11,7 @@ use Rattle.runs.specs.declared.end.End.{End}
 use Rattle.runs.specs.declared.end.End.TheVariants.{Memory}
 use Rattle.runs.specs.declared.read.ReadError.{ReadError}
 use Rattle.runs.specs.Devices.{UsesSource, problem_failures, problem_whole}
-use Rattle.runs.specs.Reading.{ReadsKnown, end_of}
+use Rattle.runs.specs.Reading.{ReadsKnown, error_end}
 use Rattle.engines.specs.Solve.{IsSettled}
 
 -- a session on a problem, with room for so many arcs more, begins with an answer to it, with nothing to undo or redo, and without marks
@@ -28,9 +28,9 @@ pub record IsOpened (known : Option (List ℕ)) (count extra : ℕ) (opening : S
   pub opens : Opens problem extra opening
 
 -- the run ends without a session: no problem was read, or memory was refused
-abbrev pub IsNotOpened : Option (List ℕ) → ℕ → End → Type 0
-IsNotOpened known count end =
-    ((error : ReadError) × (end ≡ end_of the.Problem error) × ReadsKnown (decided problem_rule) reads (Err error) known count) ⊎ (end ≡ Memory)
+abbrev pub EndsWithoutSession : Option (List ℕ) → ℕ → End → Type 0
+EndsWithoutSession known count end =
+    ((error : ReadError) × (end ≡ error_end the.Problem error) × ReadsKnown (decided problem_rule) reads (Err error) known count) ⊎ (end ≡ Memory)
 
 -- the session that was opened on what a source gave, all of which was read
 pub record OpensOn {P : Type 0} (device : source.Ghosts P) (old new : P) (extra : ℕ) (opening : SessionState) : Type 0 where
@@ -39,5 +39,5 @@ pub record OpensOn {P : Type 0} (device : source.Ghosts P) (old new : P) (extra 
 
 -- the run ended without a session on what a source gave
 pub record EndsUnopened {P : Type 0} (device : source.Ghosts P) (old new : P) (end : End) : Type 0 where
-  pub ended : IsNotOpened (text_over device.remaining device.given old new) (device.most_left old - device.most_left new) end
+  pub ended : EndsWithoutSession (text_over device.remaining device.given old new) (device.most_left old - device.most_left new) end
   pub source : UsesSource device (problem_whole end) (problem_failures end) old new

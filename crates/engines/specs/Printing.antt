@@ -33,8 +33,8 @@ outcome_line (Best worth) = value_line worth
 outcome_line (Infeasible shortage) = shortage_line shortage
 
 -- that of a moment
-abbrev pub outcome : Moment → List ℕ
-outcome m = outcome_line m.verdict
+abbrev pub outcome_text : Moment → List ℕ
+outcome_text m = outcome_line m.verdict
 
 -- a best flow, with its potentials where a proof is asked for
 abbrev pub best_text : ℤ → Bool → Moment → List ℕ
@@ -55,6 +55,6 @@ solution proof m = solution_by m.verdict proof m
 
 -- what is printed for a reply, where this is the present moment after the step
 abbrev pub reply_text : Reply → Moment → List ℕ
-reply_text TellsVerdict m = outcome m
+reply_text TellsVerdict m = outcome_text m
 reply_text (Shows proof) m = solution proof m
 reply_text (Refuses number) m = refusal_line number

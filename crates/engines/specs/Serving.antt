@@ -17,7 +17,7 @@ use Rattle.runs.specs.Reading.{SourceGives}
 use Rattle.runs.specs.declared.end.Text.TheVariants as the
 use Rattle.runs.specs.declared.end.End.{End}
 use Rattle.runs.specs.declared.end.End.TheVariants.{Ended, ReadFailed, WriteFailed}
-use Rattle.engines.specs.Printing.{outcome}
+use Rattle.engines.specs.Printing.{outcome_text}
 use Rattle.engines.specs.Run.{Answers, AnswersTurns, reply_count, turns_in}
 
 -- what a sink says of itself: the bytes that it holds, where it says them, and how many flushes went well
@@ -90,31 +90,31 @@ GoesOn result opening given present group cutter before now =
     MatchResult result (λ _. Stands opening given present group cutter before now) (λ _. Stopped opening (parts_of given).ended before now)
 
 -- what a call leaves that answers the last line of the commands too
-abbrev pub Finishes : {E : Type 0} → Result (Unit {0}) E → SessionState → List ℕ → SessionState → Output → Output → Type 0
-Finishes result opening given present before now =
+abbrev pub AnswersAll : {E : Type 0} → Result (Unit {0}) E → SessionState → List ℕ → SessionState → Output → Output → Type 0
+AnswersAll result opening given present before now =
     MatchResult result (λ _. Answered opening (lines_of given) present before now) (λ _. Stopped opening (lines_of given) before now)
 
 -- where a session stands in its commands: its state, the group that stands open, the cutter, and what its sink tells
-pub record Place : Type 0 where
+pub record Progress : Type 0 where
   pub state : SessionState
   pub group : Option Gathered
   pub cutter : Cut
   pub output : Output
 
-abbrev pub place : SessionState → Option Gathered → Cut → Output → Place
-place state group cutter output = record { state = state; group = group; cutter = cutter; output = output }
+abbrev pub progress : SessionState → Option Gathered → Cut → Output → Progress
+progress state group cutter output = record { state = state; group = group; cutter = cutter; output = output }
 
 -- a piece more of the commands was taken, whatever came before it
-abbrev pub TakesPiece : {E : Type 0} → Result (Unit {0}) E → List ℕ → Place → Place → Type 0
+abbrev pub TakesPiece : {E : Type 0} → Result (Unit {0}) E → List ℕ → Progress → Progress → Type 0
 TakesPiece result piece old new =
     (opening : SessionState) (given : List ℕ) (before : Output) → Stands opening given old.state old.group old.cutter before old.output
     → GoesOn result opening (given ++ piece) new.state new.group new.cutter before new.output
 
 -- what stands after the last line feed was taken, whatever came before it
-abbrev pub TakesRest : {E : Type 0} → Result (Unit {0}) E → Place → SessionState → Output → Type 0
+abbrev pub TakesRest : {E : Type 0} → Result (Unit {0}) E → Progress → SessionState → Output → Type 0
 TakesRest result old new after =
     (opening : SessionState) (given : List ℕ) (before : Output) → Stands opening given old.state old.group old.cutter before old.output
-    → Finishes result opening given new before after
+    → AnswersAll result opening given new before after
 
 -- how the commands end, of which `given` has come and `rest` is known to be left
 abbrev pub CommandsEnd : End → SessionState → List ℕ → Option (List ℕ) → Output → Output → Type 0
@@ -136,13 +136,13 @@ ServesCommands script out end opening old new before after =
 pub record StopsTelling {C O : Type 0} (out : sink.Ghosts O) (end : End) (opening : SessionState) (old new : C) (before after : O) : Type 0 where
   pub failed : end ≡ WriteFailed
   pub unread : new ≡ old
-  pub appends : AppendsBeginning (out.contents before) (out.contents after) (outcome opening.moments.present)
+  pub appends : AppendsBeginning (out.contents before) (out.contents after) (outcome_text opening.moments.present)
   pub flushed : out.flushes after ≡ out.flushes before
 
 -- it was written and passed on, and then the commands that a source gave were served to this end
 pub record TellsAndServes {C O : Type 0} (script : source.Ghosts C) (out : sink.Ghosts O) (end : End) (opening : SessionState) (old new : C) (before after : O) : Type 0 where
   pub told : O
-  pub appends : Appends (out.contents before) (out.contents told) (outcome opening.moments.present)
+  pub appends : Appends (out.contents before) (out.contents told) (outcome_text opening.moments.present)
   pub flushed : RisesBy 1 (out.flushes before) (out.flushes told)
   pub serves : ServesCommands script out end opening old new told after
 

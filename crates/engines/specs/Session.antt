@@ -10,7 +10,7 @@ use Rattle.runs.specs.declared.end.Text.TheVariants as the
 use Rattle.runs.specs.declared.end.End.{End}
 use Rattle.runs.specs.declared.end.End.TheVariants.{Solved, Infeasible, Ended, Valid, NotValid, Refused, ReadFailed, WriteFailed, Memory}
 use Rattle.runs.specs.Reading.{IsProblemText}
-use Rattle.engines.specs.Printing.{outcome}
+use Rattle.engines.specs.Printing.{outcome_text}
 use Rattle.engines.specs.Run.{Answers, reply_count}
 use Rattle.engines.specs.Opening.{Opens}
 
@@ -21,7 +21,7 @@ pub record PrintsRun (problem : ProblemValue) (extra : ℕ) (lines : List Line) 
   pub last : SessionState
   pub replies : List ℕ
   pub answers : Answers opening lines replies last
-  pub written_is : written ≡ outcome opening.moments.present ++ replies
+  pub written_is : written ≡ outcome_text opening.moments.present ++ replies
 
 -- a beginning of the printing of a run over the first of these lines
 pub record PrintsBeginning (problem : ProblemValue) (extra : ℕ) (lines : List Line) (written : List ℕ) : Type 0 where

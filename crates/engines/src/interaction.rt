@@ -7,8 +7,8 @@ ghost use Rattle.dimacs_io.specs.declared.device.LastCall.TheVariants as last;
 ghost use Rattle.session.specs.Session.{present};
 ghost use Rattle.session.specs.Step.{state_of};
 ghost use Rattle.runs.specs.Devices.{UsesSink, UsesSource, last_by, problem_failures, problem_whole, write_failures};
-ghost use Rattle.engines.specs.Printing.{outcome};
-ghost use Rattle.engines.specs.Serving.{LeavesPassedOn, ServesCommands, ServesSession, TakesPiece, TakesRest, output_of, place};
+ghost use Rattle.engines.specs.Printing.{outcome_text};
+ghost use Rattle.engines.specs.Serving.{LeavesPassedOn, ServesCommands, ServesSession, TakesPiece, TakesRest, output_of, progress};
 ghost use Rattle.engines.specs.Session.{FlushesOnDevices, SessionOnDevices, command_failures, commands_whole};
 
 use crate::opening::open_text;
@@ -108,7 +108,7 @@ fn tell_opening<A: Allocator + Copy, O: Sink>(
     out: &mut O,
 ) -> Result<(), Broken>
     requires { O.failures out.old < 2 ^ 64 - 1 }
-    ensures { PassesText O.Sink result out.old out.new (outcome (present session.now)) }
+    ensures { PassesText O.Sink result out.old out.new (outcome_text (present session.now)) }
 {
     write_outcome(session, out)?;
     out.flush()
@@ -173,8 +173,8 @@ fn serve_piece<A: Allocator + Copy, O: Sink>(
 ) -> Result<(), Broken>
     requires { O.failures out.old < 2 ^ 64 - 1 }
     ensures goes_on { TakesPiece result piece.now
-        (place (state_of session.old) group.old cutter.old (output_of O.Sink out.old))
-        (place (state_of session.new) group.new cutter.new (output_of O.Sink out.new)) }
+        (progress (state_of session.old) group.old cutter.old (output_of O.Sink out.old))
+        (progress (state_of session.new) group.new cutter.new (output_of O.Sink out.new)) }
     ensures passed_on { LeavesPassedOn O.Sink result out.old out.new }
 {
     ended_lines_stay();
@@ -199,7 +199,7 @@ fn serve_rest<A: Allocator + Copy, O: Sink>(
 ) -> Result<(), Broken>
     requires { O.failures out.old < 2 ^ 64 - 1 }
     ensures rest { TakesRest result
-        (place (state_of session.old) group.old cutter.now (output_of O.Sink out.old))
+        (progress (state_of session.old) group.old cutter.now (output_of O.Sink out.old))
         (state_of session.new) (output_of O.Sink out.new) }
     ensures passed_on { LeavesPassedOn O.Sink result out.old out.new }
 {

@@ -2,7 +2,7 @@
 ghost use Rattle.std.specs.Prelude.{◌≡◌, ◌-◌, ◌^◌, ◌<◌, [], length, if◌then◌else◌};
 ghost use Rattle.dimacs_io.specs.Line.{cut_line, potential_line};
 ghost use Rattle.dimacs_io.specs.Calls.{WritesText};
-ghost use Rattle.engines.specs.Printing.{best_text, cut_lines, flow_line_of, flow_lines, outcome, potential_lines, solution, breach_text};
+ghost use Rattle.engines.specs.Printing.{best_text, cut_lines, flow_line_of, flow_lines, outcome_text, potential_lines, solution, breach_text};
 ghost use Rattle.session.specs.Session.{present};
 
 use dimacs_io::{Broken, Sink, write_f, write_i, write_k, write_s, write_v, writes_follow};
@@ -18,7 +18,7 @@ pub fn write_outcome<A: Allocator + Copy, O: Sink>(
     out: &mut O,
 ) -> Result<(), Broken>
     requires { O.failures out.old < 2 ^ 64 - 1 }
-    ensures { WritesText O.Sink result out.old out.new (outcome (present session.now)) }
+    ensures { WritesText O.Sink result out.old out.new (outcome_text (present session.now)) }
 {
     match session.verdict() {
         Verdict::Best(worth) => write_s(out, worth),

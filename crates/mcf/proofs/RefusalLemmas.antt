@@ -3,13 +3,13 @@ use Rattle.std.proofs.Common.{◌≡◌, ◌∙◌, true, sym, ap, subst, inl, c
 use Rattle.clap.specs.Words.{App, HasKind, Row, Text, fault_of, is_simple_and_free, kind_of, takes}
 use Rattle.clap.specs.declared.error.Error.{Error}
 use Rattle.clap.specs.declared.error.kind.ErrorKind.TheVariants.{OutOfMemory}
-use Rattle.mcf.specs.Tasks.{IsNotANumber, IsRefusal, IsTaken, IsWantOfMemory, Names, command_of, program}
+use Rattle.mcf.specs.Tasks.{CallCommand, IsNotANumber, IsRefusal, IsWantOfMemory, Names, command_of, program}
 use Rattle.mcf.specs.declared.command_line.Task.{Task}
 use Rattle.mcf.specs.declared.command_line.Usage.{Usage}
 use Rattle.mcf.specs.declared.command_line.Usage.TheVariants.{Words, NotANumber}
 use Rattle.mcf.proofs.TakenLemmas.{program_is_free}
 
-pub taken_by : (app : App) (words : List Text) → app ≡ program → (is_simple_and_free app ≡ true → fault_of app words ≡ []) → IsTaken words
+pub taken_by : (app : App) (words : List Text) → app ≡ program → (is_simple_and_free app ≡ true → fault_of app words ≡ []) → CallCommand words
 taken_by app words same none = subst (λ (a : App). fault_of a words ≡ []) same (none (ap is_simple_and_free same ∙ program_is_free))
 
 pub refused_by_clap : (app : App) (words : List Text) (error : Error) → app ≡ program → (is_simple_and_free app ≡ true → HasKind (fault_of app words) error)
@@ -29,10 +29,10 @@ module _ (words : List Text) (rows : List Row) (same : command_of words ≡ Some
   session_named (Ok task) is = subst (λ (used : Option (Text × List Row)). Names used task) (sym same) is
   session_named (Err usage) is = tt
 
-  pub session_refused : (answer : Result Task Usage) → IsTaken words → MatchResult answer (Names (Some (codes "session", rows))) (IsNotANumber rows) → IfErr answer (IsRefusal words)
+  pub session_refused : (answer : Result Task Usage) → CallCommand words → MatchResult answer (Names (Some (codes "session", rows))) (IsNotANumber rows) → IfErr answer (IsRefusal words)
   session_refused (Ok task) taken is = tt
   session_refused (Err usage) taken is = subst (IsRefusal words) (sym is.0) (taken, rows, same, is.1)
 
-pub taken_if_ok : (words : List Text) (answer : Result Task Usage) → IsTaken words → IfOk answer (λ _. IsTaken words)
+pub taken_if_ok : (words : List Text) (answer : Result Task Usage) → CallCommand words → IfOk answer (λ _. CallCommand words)
 taken_if_ok words (Ok task) taken = taken
 taken_if_ok words (Err usage) taken = tt

@@ -41,12 +41,12 @@ abbrev pub check_command : App
 check_command = with_rule (with_rule (new_app (codes "check")) (needed_rule (codes "problem"))) (needed_rule (codes "answer"))
 
 -- `mcf`, which has a version and asks for a command
-abbrev pub named : App
-named = on_top (λ top. record top { has_version = true; subcommand_required = true }) (new_app (codes "mcf"))
+abbrev pub bare_program : App
+bare_program = on_top (λ top. record top { has_version = true; subcommand_required = true }) (new_app (codes "mcf"))
 
 -- `mcf` with its commands
 abbrev pub program : App
-program = with_subcommand (with_subcommand (with_subcommand named solve_command.top) session_command.top) check_command.top
+program = with_subcommand (with_subcommand (with_subcommand bare_program solve_command.top) session_command.top) check_command.top
 
 -- the name and the matches of the command that the words name
 abbrev pub command_of : List Text → Option (Text × List Row)
@@ -74,8 +74,8 @@ abbrev pub IsNotANumber : List Row → Usage → Type 0
 IsNotANumber rows usage = (usage ≡ NotANumber) × SaysNoNumber rows
 
 -- `clap` finds no fault in the words, and no call for help or the version
-abbrev pub IsTaken : List Text → Type 0
-IsTaken words = fault_of program words ≡ []
+abbrev pub CallCommand : List Text → Type 0
+CallCommand words = fault_of program words ≡ []
 
 abbrev pub IsWantOfMemory : Usage → Type 0
 IsWantOfMemory (Words error) = kind_of error ≡ OutOfMemory
@@ -85,4 +85,4 @@ IsWantOfMemory NotANumber = ⊥
 -- memory is, or where the number of `--extra` is none in a text
 abbrev pub IsRefusal : List Text → Usage → Type 0
 IsRefusal words (Words error) = HasKind (fault_of program words) error × (takes program words ≡ true → kind_of error ≡ OutOfMemory)
-IsRefusal words NotANumber = IsTaken words × (rows : List Row) × (command_of words ≡ Some (codes "session", rows)) × SaysNoNumber rows
+IsRefusal words NotANumber = CallCommand words × (rows : List Row) × (command_of words ≡ Some (codes "session", rows)) × SaysNoNumber rows

@@ -118,8 +118,8 @@ fn check_command<'a>(alloc: Global) -> Result<Command<'a>, AllocError>
 }
 
 /// The program before its commands.
-fn named<'a>(alloc: Global) -> Command<'a>
-    ensures app { app_of result ≡ tasks.named }
+fn bare_program<'a>(alloc: Global) -> Command<'a>
+    ensures app { app_of result ≡ tasks.bare_program }
     ensures local { (out-Command result).has_globals ≡ false }
 {
     Command::new(alloc, "mcf")
@@ -133,7 +133,7 @@ fn named<'a>(alloc: Global) -> Command<'a>
 pub fn program<'a>(alloc: Global) -> Result<Command<'a>, AllocError>
     ensures app { IfOk result (λ c. app_of c ≡ tasks.program) }
 {
-    named(alloc)
+    bare_program(alloc)
         .subcommand(solve_command(alloc)?)?
         .subcommand(session_command(alloc)?)?
         .subcommand(check_command(alloc)?)

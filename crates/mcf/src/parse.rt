@@ -1,7 +1,7 @@
 //! The task that a command line names.
 ghost use Rattle.std.specs.Prelude.{◌≡◌, true, IfOk, IfErr, MatchResult, Some, codes, is_some, map, string_bytes};
 ghost use Rattle.clap.specs.Words.{first_of, found_of, rows_of};
-ghost use Rattle.mcf.specs.Tasks.{IsExtra, IsNotANumber, IsRefusal, IsTaken, Names, command_of};
+ghost use Rattle.mcf.specs.Tasks.{CallCommand, IsExtra, IsNotANumber, IsRefusal, Names, command_of};
 
 use crate::command_line::{DEFAULT_EXTRA, EXTRA_LIMIT, Task, Usage};
 use crate::commands::program;
@@ -12,7 +12,7 @@ use std::alloc::Global;
 /// Reads the words of a command line, the program's own name first.
 pub fn task<'a>(alloc: Global, words: &'a [String]) -> Result<Task<'a>, Usage>
     ensures named { IfOk result (Names (command_of (map string_bytes words.entry.now))) }
-    ensures taken { IfOk result (λ _. IsTaken (map string_bytes words.entry.now)) }
+    ensures taken { IfOk result (λ _. CallCommand (map string_bytes words.entry.now)) }
     ensures refused { IfErr result (IsRefusal (map string_bytes words.entry.now)) }
 {
     let matches = program(alloc)?.try_get_matches_from(words)?;

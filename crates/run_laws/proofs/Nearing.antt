@@ -26,7 +26,7 @@ use Rattle.session.specs.Session.{AreEdited, IsEdited}
 use Rattle.session.specs.Step.{Reply, SessionState, IsApplied, IsRefused, StepBy, StepOfEdits, TurnStep}
 use Rattle.engines.specs.Run.{Run}
 use Rattle.run_laws.specs.Near.{edits_of_command, edits_of_turn, groups_of}
-use Rattle.run_laws.specs.Undone.{AllTurns, IsChange, IsEditCommand, NoneRefuses}
+use Rattle.run_laws.specs.Undone.{AllTurns, IsEditCommand, MakesEdits, NoneRefuses}
 use Rattle.run_laws.proofs.Undoing.{Accepts, accepts_by}
 
 -- one edit is a group of one
@@ -63,7 +63,7 @@ group_led : (tested : Result Instance ℕ) (group : Gathered) (old new : Session
 group_led (Ok I) group old new reply accepts step = edits_led group.fault group.edits old new reply accepts step
 group_led (Err number) group old new reply accepts refused = absurd (accepts number refused.reply_is)
 
-turn_led : (turn : Turn) (old new : SessionState) (reply : Reply) → IsChange turn → Accepts reply → TurnStep old turn reply new
+turn_led : (turn : Turn) (old new : SessionState) (reply : Reply) → MakesEdits turn → Accepts reply → TurnStep old turn reply new
     → AreEdited (edits_of_turn (kind_of old.moments.present.instance.demand) turn) old.moments.present new.moments.present
 turn_led (OfLine line) old new reply is accepts step =
     let kind = kind_of old.moments.present.instance.demand in line_led (command kind line) old new reply (is kind) accepts step
@@ -71,7 +71,7 @@ turn_led (OfGroup lines) old new reply is accepts step =
     let group = gathered (kind_of old.moments.present.instance.demand) 0 lines in group_led (edited_all old.moments.present.instance group.edits) group old new reply accepts step
 
 -- a run of accepted edits and groups leads through them
-pub run_leads : (old new : SessionState) (turns : List Turn) (texts : List (List ℕ)) → AllTurns IsChange turns → NoneRefuses texts → Run old turns texts new
+pub run_leads : (old new : SessionState) (turns : List Turn) (texts : List (List ℕ)) → AllTurns MakesEdits turns → NoneRefuses texts → Run old turns texts new
     → LeadThrough (groups_of (kind_of old.moments.present.instance.demand) turns) old.moments.present new.moments.present
 run_leads old new [] [] are none run = ap (λ (s : SessionState). s.moments.present) run
 run_leads old new [] (text ∷ texts) are none run = absurd run
@@ -89,7 +89,7 @@ run_leads old new (turn ∷ turns) (text ∷ texts) are none run =
     )
 
 pub run_moves_little : (old new : SessionState) (changes : List Turn) (told : List (List ℕ)) (k : ℕ) (worth : ℤ)
-    → IsAnswered old.moments.present → old.moments.present.verdict ≡ Best worth → AllTurns IsChange changes → NoneRefuses told → Run old changes told new
+    → IsAnswered old.moments.present → old.moments.present.verdict ≡ Best worth → AllTurns MakesEdits changes → NoneRefuses told → Run old changes told new
     → IsLeftOut old.moments.present.instance (edits_of (groups_of (kind_of old.moments.present.instance.demand) changes)) k
     → MovesWithin (pos (units_all old.moments.present.instance (edits_of (groups_of (kind_of old.moments.present.instance.demand) changes)))) k old.moments.present new.moments.present
 run_moves_little old new changes told k worth answered best are none run left_out =

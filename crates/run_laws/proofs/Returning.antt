@@ -21,7 +21,7 @@ use Rattle.session.specs.Step.{Reply, SessionState, IsApplied, IsRefused, StepBy
 use Rattle.session.proofs.Apart.{found_again, kept_few, kept_where, others_stay, put_few}
 use Rattle.engines.specs.Printing.{solution}
 use Rattle.engines.specs.Run.{Run}
-use Rattle.run_laws.specs.Returned.{IsBack, IsMark, LeavesName}
+use Rattle.run_laws.specs.Returned.{GivesName, IsBack, LeavesName}
 use Rattle.run_laws.specs.Undone.{AllTurns, IsShow}
 use Rattle.run_laws.proofs.Undoing.{Accepts, accepts_by, split, text_shown}
 
@@ -173,7 +173,7 @@ module _ (name : List ℕ) where
   )
   put_by false old new reply there accepts refused are = absurd (accepts (number_of refusal.TooManyMarks) refused.reply_is)
 
-  mark_step : (turn : Turn) (old new : SessionState) (reply : Reply) → IsMark name turn → Accepts reply → TurnStep old turn reply new → AreMarks old.marks
+  mark_step : (turn : Turn) (old new : SessionState) (reply : Reply) → GivesName name turn → Accepts reply → TurnStep old turn reply new → AreMarks old.marks
       → Keeps name old.moments.present new × (new.moments ≡ old.moments)
   mark_step (OfLine line) old new reply is accepts step are =
       put_by (has_place old.marks name) old new reply refl accepts
@@ -195,7 +195,7 @@ module _ (name : List ℕ) where
   back_step m (OfGroup lines) old new reply is accepts step keeps = absurd is
 
 pub returned_shows_the_same : (proof : Bool) (name : List ℕ) (old new : SessionState) (mark first back last : Turn) (turns : List Turn) (told_mark shown moved again : List ℕ) (told : List (List ℕ))
-    → AreMarks old.marks → IsMark name mark → IsShow proof first → AllTurns (LeavesName name) turns → IsBack name back → IsShow proof last
+    → AreMarks old.marks → GivesName name mark → IsShow proof first → AllTurns (LeavesName name) turns → IsBack name back → IsShow proof last
     → length told ≡ length turns → ((number : ℕ) → told_mark ≢ refusal_line number) → ((number : ℕ) → moved ≢ refusal_line number)
     → Run old (mark ∷ first ∷ turns ++ back ∷ last ∷ []) (told_mark ∷ shown ∷ told ++ moved ∷ again ∷ []) new → again ≡ shown
 returned_shows_the_same proof name old new mark first back last turns told_mark shown moved again told are is shows leave goes shows_again count accepted_mark accepted_back run =

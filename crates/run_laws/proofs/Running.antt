@@ -21,17 +21,17 @@ use Rattle.engines.specs.Printing.{reply_text, outcome_line, solution}
 use Rattle.engines.specs.Run.{Run}
 use Rattle.engines.specs.Session.{PrintsRun, SessionWrites}
 use Rattle.engines.specs.Solve.{Prints, end_by}
-use Rattle.run_laws.specs.Alike.{AreAlike, HasOneBest, StatesAlike}
+use Rattle.run_laws.specs.Alike.{HasOneBest, MomentsAlike, StatesAlike}
 use Rattle.run_laws.specs.Texts.{DifferInFlows, TellsNoWantOfMemory}
 use Rattle.run_laws.proofs.Agreeing.{same_verdict}
 use Rattle.run_laws.proofs.Stepping.{turns_alike}
 use Rattle.run_laws.proofs.Pieces.{same_by, together, all_together}
 use Rattle.run_laws.proofs.Showing.{begins, shown_alike, shown_the_same}
 
-verdict_is : (a b : Moment) → AreAlike a b → b.verdict ≡ a.verdict
+verdict_is : (a b : Moment) → MomentsAlike a b → b.verdict ≡ a.verdict
 verdict_is a b alike = same_verdict a b a.instance.room alike.instance alike.one alike.other
 
-reply_alike : (r : Reply) (a b : Moment) → AreAlike a b → DifferInFlows (reply_text r a) (reply_text r b)
+reply_alike : (r : Reply) (a b : Moment) → MomentsAlike a b → DifferInFlows (reply_text r a) (reply_text r b)
 reply_alike TellsVerdict a b alike = same_by (outcome_line a.verdict) (outcome_line b.verdict) (ap outcome_line (verdict_is a b alike))
 reply_alike (Shows proof) a b alike = shown_alike proof a b a.instance.room alike.instance alike.one alike.other
 reply_alike (Refuses n) a b alike = same_by (refusal_line n) (refusal_line n) refl
@@ -69,9 +69,9 @@ all_alike s t after other (turn ∷ turns) (x ∷ one) (y ∷ two) alike a b m n
 
 moments_alike : (problem : ProblemValue) (extra : ℕ) (s t : SessionState) → Opens problem extra s → Opens problem extra t → StatesAlike s t
 moments_alike problem extra s t a b = record {
-  past = subst (λ (xs : List Moment). AllZip AreAlike xs t.moments.past) (sym a.past) (subst (λ (ys : List Moment). AllZip AreAlike [] ys) (sym b.past) tt);
+  past = subst (λ (xs : List Moment). AllZip MomentsAlike xs t.moments.past) (sym a.past) (subst (λ (ys : List Moment). AllZip MomentsAlike [] ys) (sym b.past) tt);
   present = record { instance = b.settled.instance_is ∙ sym a.settled.instance_is; one = a.settled.answered; other = b.settled.answered };
-  future = subst (λ (xs : List Moment). AllZip AreAlike xs t.moments.future) (sym a.future) (subst (λ (ys : List Moment). AllZip AreAlike [] ys) (sym b.future) tt);
+  future = subst (λ (xs : List Moment). AllZip MomentsAlike xs t.moments.future) (sym a.future) (subst (λ (ys : List Moment). AllZip MomentsAlike [] ys) (sym b.future) tt);
   marks = b.marks ∙ sym a.marks;
 }
 

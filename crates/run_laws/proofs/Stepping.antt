@@ -18,7 +18,7 @@ use Rattle.session.specs.declared.refusal.StepRefusal.TheVariants as refusal
 use Rattle.session.specs.Marks.{marked, has_place, with_mark, up_to}
 use Rattle.session.specs.Refusal.{number_of as step_number}
 use Rattle.session.specs.Step.{Reply, Refuses, SessionState, IsRefused, IsShown, IsApplied, AreApplied, IsUndone, IsRedone, IsPut, IsMoved, StepOfMark, StepOfBack, StepBy, StepOfEdits, TurnStep}
-use Rattle.run_laws.specs.Alike.{AreAlike, StatesAlike}
+use Rattle.run_laws.specs.Alike.{MomentsAlike, StatesAlike}
 use Rattle.run_laws.proofs.Lists.{joined, parted, as_long}
 
 -- the number by which want of memory is reported
@@ -49,13 +49,13 @@ module _ (s t : SessionState) (alike : StatesAlike s t) where
   shown_alike p r q s' t' a b = (b.reply_is ∙ sym a.reply_is, subst (λ (x : SessionState). StatesAlike x t') (sym a.unchanged) (subst (λ (y : SessionState). StatesAlike s y) (sym b.unchanged) alike))
 
   -- a new step on both sides
-  advanced : (s' t' : SessionState) → Advances s.moments s'.moments → Advances t.moments t'.moments → AreAlike s'.moments.present t'.moments.present
+  advanced : (s' t' : SessionState) → Advances s.moments s'.moments → Advances t.moments t'.moments → MomentsAlike s'.moments.present t'.moments.present
       → s'.marks ≡ up_to (length s.moments.past) s.marks → t'.marks ≡ up_to (length t.moments.past) t.marks → StatesAlike s' t'
   advanced s' t' a b here m n = record {
-    past = subst (λ (xs : List Moment). AllZip AreAlike xs t'.moments.past) (sym a.past) (subst (λ (ys : List Moment). AllZip AreAlike (s.moments.past ++ s.moments.present ∷ []) ys) (sym b.past) (pushed AreAlike s.moments.past t.moments.past s.moments.present t.moments.present alike.past alike.present));
+    past = subst (λ (xs : List Moment). AllZip MomentsAlike xs t'.moments.past) (sym a.past) (subst (λ (ys : List Moment). AllZip MomentsAlike (s.moments.past ++ s.moments.present ∷ []) ys) (sym b.past) (pushed MomentsAlike s.moments.past t.moments.past s.moments.present t.moments.present alike.past alike.present));
     present = here;
-    future = subst (λ (xs : List Moment). AllZip AreAlike xs t'.moments.future) (sym a.future) (subst (λ (ys : List Moment). AllZip AreAlike [] ys) (sym b.future) tt);
-    marks = n ∙ ap (λ (k : ℕ). up_to k t.marks) (as_long AreAlike s.moments.past t.moments.past alike.past) ∙ ap (up_to (length s.moments.past)) alike.marks ∙ sym m;
+    future = subst (λ (xs : List Moment). AllZip MomentsAlike xs t'.moments.future) (sym a.future) (subst (λ (ys : List Moment). AllZip MomentsAlike [] ys) (sym b.future) tt);
+    marks = n ∙ ap (λ (k : ℕ). up_to k t.marks) (as_long MomentsAlike s.moments.past t.moments.past alike.past) ∙ ap (up_to (length s.moments.past)) alike.marks ∙ sym m;
   }
 
   never : (r : Reply) (P : Type 0) → r ≢ Refuses memory → r ≡ Refuses memory → P
@@ -100,15 +100,15 @@ module _ (s t : SessionState) (alike : StatesAlike s t) where
   back_alike : (r q : Reply) (s' t' : SessionState) → IsUndone s r s' → IsUndone t q t' → Same r q s' t'
   unfolding Same
   back_alike r q s' t' a b =
-      let all : AllZip AreAlike (s'.moments.past ++ s'.moments.present ∷ []) (t'.moments.past ++ t'.moments.present ∷ []) =
-      subst (λ (xs : List Moment). AllZip AreAlike xs (t'.moments.past ++ t'.moments.present ∷ [])) a.back.past (subst (λ (ys : List Moment). AllZip AreAlike s.moments.past ys) b.back.past alike.past) in
-      let len : length t'.moments.past ≡ length s'.moments.past = omega (arith, as_long AreAlike _ _ all, length-append s'.moments.past (s'.moments.present ∷ []), length-append t'.moments.past (t'.moments.present ∷ [])) in
-      let two = parted AreAlike s'.moments.past t'.moments.past (s'.moments.present ∷ []) (t'.moments.present ∷ []) len all in (
+      let all : AllZip MomentsAlike (s'.moments.past ++ s'.moments.present ∷ []) (t'.moments.past ++ t'.moments.present ∷ []) =
+      subst (λ (xs : List Moment). AllZip MomentsAlike xs (t'.moments.past ++ t'.moments.present ∷ [])) a.back.past (subst (λ (ys : List Moment). AllZip MomentsAlike s.moments.past ys) b.back.past alike.past) in
+      let len : length t'.moments.past ≡ length s'.moments.past = omega (arith, as_long MomentsAlike _ _ all, length-append s'.moments.past (s'.moments.present ∷ []), length-append t'.moments.past (t'.moments.present ∷ [])) in
+      let two = parted MomentsAlike s'.moments.past t'.moments.past (s'.moments.present ∷ []) (t'.moments.present ∷ []) len all in (
         b.reply_is ∙ sym a.reply_is,
         record {
           past = two.0;
           present = two.1.0;
-          future = subst (λ (xs : List Moment). AllZip AreAlike xs t'.moments.future) (sym a.back.future) (subst (λ (ys : List Moment). AllZip AreAlike (s.moments.present ∷ s.moments.future) ys) (sym b.back.future) (alike.present, alike.future));
+          future = subst (λ (xs : List Moment). AllZip MomentsAlike xs t'.moments.future) (sym a.back.future) (subst (λ (ys : List Moment). AllZip MomentsAlike (s.moments.present ∷ s.moments.future) ys) (sym b.back.future) (alike.present, alike.future));
           marks = b.marks ∙ alike.marks ∙ sym a.marks;
         },
       )
@@ -116,11 +116,11 @@ module _ (s t : SessionState) (alike : StatesAlike s t) where
   forward_alike : (r q : Reply) (s' t' : SessionState) → IsRedone s r s' → IsRedone t q t' → Same r q s' t'
   unfolding Same
   forward_alike r q s' t' a b =
-      let all : AllZip AreAlike (s'.moments.present ∷ s'.moments.future) (t'.moments.present ∷ t'.moments.future) =
-      subst (λ (xs : List Moment). AllZip AreAlike xs (t'.moments.present ∷ t'.moments.future)) a.forward.future (subst (λ (ys : List Moment). AllZip AreAlike s.moments.future ys) b.forward.future alike.future) in (
+      let all : AllZip MomentsAlike (s'.moments.present ∷ s'.moments.future) (t'.moments.present ∷ t'.moments.future) =
+      subst (λ (xs : List Moment). AllZip MomentsAlike xs (t'.moments.present ∷ t'.moments.future)) a.forward.future (subst (λ (ys : List Moment). AllZip MomentsAlike s.moments.future ys) b.forward.future alike.future) in (
         b.reply_is ∙ sym a.reply_is,
         record {
-          past = subst (λ (xs : List Moment). AllZip AreAlike xs t'.moments.past) (sym a.forward.past) (subst (λ (ys : List Moment). AllZip AreAlike (s.moments.past ++ s.moments.present ∷ []) ys) (sym b.forward.past) (pushed AreAlike s.moments.past t.moments.past s.moments.present t.moments.present alike.past alike.present));
+          past = subst (λ (xs : List Moment). AllZip MomentsAlike xs t'.moments.past) (sym a.forward.past) (subst (λ (ys : List Moment). AllZip MomentsAlike (s.moments.past ++ s.moments.present ∷ []) ys) (sym b.forward.past) (pushed MomentsAlike s.moments.past t.moments.past s.moments.present t.moments.present alike.past alike.present));
           present = all.0;
           future = all.1;
           marks = b.marks ∙ alike.marks ∙ sym a.marks;
@@ -129,16 +129,16 @@ module _ (s t : SessionState) (alike : StatesAlike s t) where
 
   -- nothing on one side only
   none_back : (r : Reply) (s' : SessionState) → IsUndone s r s' → t.moments.past ≡ [] → ⊥
-  none_back r s' a none = omega (arith, as_long AreAlike s.moments.past t.moments.past alike.past, ap length a.back.past, length-append s'.moments.past (s'.moments.present ∷ []), ap length none)
+  none_back r s' a none = omega (arith, as_long MomentsAlike s.moments.past t.moments.past alike.past, ap length a.back.past, length-append s'.moments.past (s'.moments.present ∷ []), ap length none)
 
   back_none : (q : Reply) (t' : SessionState) → s.moments.past ≡ [] → IsUndone t q t' → ⊥
-  back_none q t' none b = omega (arith, as_long AreAlike s.moments.past t.moments.past alike.past, ap length b.back.past, length-append t'.moments.past (t'.moments.present ∷ []), ap length none)
+  back_none q t' none b = omega (arith, as_long MomentsAlike s.moments.past t.moments.past alike.past, ap length b.back.past, length-append t'.moments.past (t'.moments.present ∷ []), ap length none)
 
   none_forward : (r : Reply) (s' : SessionState) → IsRedone s r s' → t.moments.future ≡ [] → ⊥
-  none_forward r s' a none = omega (arith, as_long AreAlike s.moments.future t.moments.future alike.future, ap length a.forward.future, ap length none)
+  none_forward r s' a none = omega (arith, as_long MomentsAlike s.moments.future t.moments.future alike.future, ap length a.forward.future, ap length none)
 
   forward_none : (q : Reply) (t' : SessionState) → s.moments.future ≡ [] → IsRedone t q t' → ⊥
-  forward_none q t' none b = omega (arith, as_long AreAlike s.moments.future t.moments.future alike.future, ap length b.forward.future, ap length none)
+  forward_none q t' none b = omega (arith, as_long MomentsAlike s.moments.future t.moments.future alike.future, ap length b.forward.future, ap length none)
 
   -- marks
   put_alike : (name : List ℕ) (r q : Reply) (s' t' : SessionState) → IsPut name s r s' → IsPut name t q t' → Same r q s' t'
@@ -146,10 +146,10 @@ module _ (s t : SessionState) (alike : StatesAlike s t) where
   put_alike name r q s' t' a b = (
     b.reply_is ∙ sym a.reply_is,
     record {
-      past = subst (λ (m : Timeline Moment). AllZip AreAlike m.past t'.moments.past) (sym a.moments) (subst (λ (m : Timeline Moment). AllZip AreAlike s.moments.past m.past) (sym b.moments) alike.past);
-      present = subst (λ (m : Timeline Moment). AreAlike m.present t'.moments.present) (sym a.moments) (subst (λ (m : Timeline Moment). AreAlike s.moments.present m.present) (sym b.moments) alike.present);
-      future = subst (λ (m : Timeline Moment). AllZip AreAlike m.future t'.moments.future) (sym a.moments) (subst (λ (m : Timeline Moment). AllZip AreAlike s.moments.future m.future) (sym b.moments) alike.future);
-      marks = b.marks ∙ ap (λ (k : ℕ). with_mark t.marks name k) (as_long AreAlike s.moments.past t.moments.past alike.past) ∙ ap (λ ms. with_mark ms name (length s.moments.past)) alike.marks ∙ sym a.marks;
+      past = subst (λ (m : Timeline Moment). AllZip MomentsAlike m.past t'.moments.past) (sym a.moments) (subst (λ (m : Timeline Moment). AllZip MomentsAlike s.moments.past m.past) (sym b.moments) alike.past);
+      present = subst (λ (m : Timeline Moment). MomentsAlike m.present t'.moments.present) (sym a.moments) (subst (λ (m : Timeline Moment). MomentsAlike s.moments.present m.present) (sym b.moments) alike.present);
+      future = subst (λ (m : Timeline Moment). AllZip MomentsAlike m.future t'.moments.future) (sym a.moments) (subst (λ (m : Timeline Moment). AllZip MomentsAlike s.moments.future m.future) (sym b.moments) alike.future);
+      marks = b.marks ∙ ap (λ (k : ℕ). with_mark t.marks name k) (as_long MomentsAlike s.moments.past t.moments.past alike.past) ∙ ap (λ ms. with_mark ms name (length s.moments.past)) alike.marks ∙ sym a.marks;
     },
   )
 
@@ -160,9 +160,9 @@ module _ (s t : SessionState) (alike : StatesAlike s t) where
   moved_alike : (n : ℕ) (r q : Reply) (s' t' : SessionState) → IsMoved n s r s' → IsMoved n t q t' → Same r q s' t'
   unfolding Same
   moved_alike n r q s' t' a b =
-      let all : AllZip AreAlike (all_boards s.moments) (all_boards t.moments) = joined AreAlike s.moments.past t.moments.past (s.moments.present ∷ s.moments.future) (t.moments.present ∷ t.moments.future) alike.past (alike.present, alike.future) in
-      let new : AllZip AreAlike (all_boards s'.moments) (all_boards t'.moments) = subst (λ (xs : List Moment). AllZip AreAlike xs (all_boards t'.moments)) (sym a.moved.boards) (subst (λ (ys : List Moment). AllZip AreAlike (all_boards s.moments) ys) (sym b.moved.boards) all) in
-      let two = parted AreAlike s'.moments.past t'.moments.past (s'.moments.present ∷ s'.moments.future) (t'.moments.present ∷ t'.moments.future) (b.moved.past ∙ sym a.moved.past) new in
+      let all : AllZip MomentsAlike (all_boards s.moments) (all_boards t.moments) = joined MomentsAlike s.moments.past t.moments.past (s.moments.present ∷ s.moments.future) (t.moments.present ∷ t.moments.future) alike.past (alike.present, alike.future) in
+      let new : AllZip MomentsAlike (all_boards s'.moments) (all_boards t'.moments) = subst (λ (xs : List Moment). AllZip MomentsAlike xs (all_boards t'.moments)) (sym a.moved.boards) (subst (λ (ys : List Moment). AllZip MomentsAlike (all_boards s.moments) ys) (sym b.moved.boards) all) in
+      let two = parted MomentsAlike s'.moments.past t'.moments.past (s'.moments.present ∷ s'.moments.future) (t'.moments.present ∷ t'.moments.future) (b.moved.past ∙ sym a.moved.past) new in
       (b.reply_is ∙ sym a.reply_is, record { past = two.0; present = two.1.0; future = two.1.1; marks = b.marks ∙ alike.marks ∙ sym a.marks })
 
   back_by : (m : Option ℕ) (r q : Reply) (s' t' : SessionState) → StepOfBack m s r s' → StepOfBack m t q t' → Same r q s' t'

@@ -21,7 +21,7 @@ use Rattle.session.specs.Refusal.{number_of as step_number}
 use Rattle.session.specs.Step.{Reply, Refuses, SessionState, IsRefused, IsShown, IsApplied, StepBy, StepOfEdits, TurnStep}
 use Rattle.engines.specs.Printing.{reply_text, solution}
 use Rattle.engines.specs.Run.{Run}
-use Rattle.run_laws.specs.Undone.{AllTurns, IsChange, IsEditCommand, IsRedo, IsShow, IsUndo, NoneRefuses, shown_by}
+use Rattle.run_laws.specs.Undone.{AllTurns, IsEditCommand, IsRedo, IsShow, IsUndo, MakesEdits, NoneRefuses, shown_by}
 
 -- ---- runs over one list of turns and then another
 
@@ -67,7 +67,7 @@ group_step : (tested : Result Instance ℕ) (group : Gathered) (old new : Sessio
 group_step (Ok I) group old new reply accepts step = edits_step group.fault group.edits old new reply accepts step
 group_step (Err number) group old new reply accepts refused = absurd (accepts number refused.reply_is)
 
-change_step : (turn : Turn) (old new : SessionState) (reply : Reply) → IsChange turn → Accepts reply → TurnStep old turn reply new → Advances old.moments new.moments
+change_step : (turn : Turn) (old new : SessionState) (reply : Reply) → MakesEdits turn → Accepts reply → TurnStep old turn reply new → Advances old.moments new.moments
 change_step (OfLine line) old new reply is accepts step =
     let kind = kind_of old.moments.present.instance.demand in line_step (command kind line) old new reply (is kind) accepts step
 change_step (OfGroup lines) old new reply is accepts step =
@@ -76,7 +76,7 @@ change_step (OfGroup lines) old new reply is accepts step =
 pub accepts_by : (text : List ℕ) (reply : Reply) (m : Moment) → text ≡ reply_text reply m → ((number : ℕ) → text ≢ refusal_line number) → Accepts reply
 accepts_by text reply m is never number e = never number (is ∙ ap (λ (r : Reply). reply_text r m) e)
 
-changes : (old new : SessionState) (turns : List Turn) (texts : List (List ℕ)) → AllTurns IsChange turns → NoneRefuses texts → Run old turns texts new
+changes : (old new : SessionState) (turns : List Turn) (texts : List (List ℕ)) → AllTurns MakesEdits turns → NoneRefuses texts → Run old turns texts new
     → Repeated Advances (length turns) old.moments new.moments
 changes old new [] [] are none run = ap (λ (s : SessionState). s.moments) run
 changes old new [] (text ∷ texts) are none run = absurd run
@@ -142,7 +142,7 @@ text_shown proof turn old new reply text is step told =
     )
 
 pub shows_the_same : (proof : Bool) (old new : SessionState) (first last : Turn) (edits backs : List Turn) (shown again : List ℕ) (told taken : List (List ℕ))
-    → IsShow proof first → AllTurns IsChange edits → AllTurns IsUndo backs → IsShow proof last
+    → IsShow proof first → AllTurns MakesEdits edits → AllTurns IsUndo backs → IsShow proof last
     → length told ≡ length edits → length backs ≡ length edits → length taken ≡ length backs → NoneRefuses told
     → Run old (first ∷ edits ++ backs ++ last ∷ []) (shown ∷ told ++ taken ++ again ∷ []) new → again ≡ shown
 shows_the_same proof old new first last edits backs shown again told taken shows are undo shows_again count as_many taken_count none run =

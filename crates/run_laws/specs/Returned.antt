@@ -5,9 +5,9 @@ use Rattle.dimacs_text.specs.declared.problem.Kind.{Kind}
 use Rattle.dimacs_text.specs.Command.{command}
 use Rattle.dimacs_text.specs.Turns.{Turn, OfLine, OfGroup}
 
-abbrev pub IsMark : List ℕ → Turn → Type 0
-IsMark name (OfLine line) = (kind : Kind) → command kind line ≡ Ok (commands.Mark name)
-IsMark name (OfGroup lines) = ⊥
+abbrev pub GivesName : List ℕ → Turn → Type 0
+GivesName name (OfLine line) = (kind : Kind) → command kind line ≡ Ok (commands.Mark name)
+GivesName name (OfGroup lines) = ⊥
 
 abbrev pub IsBack : List ℕ → Turn → Type 0
 IsBack name (OfLine line) = (kind : Kind) → command kind line ≡ Ok (commands.Back name)

@@ -12,9 +12,9 @@ IsEditCommand (commands.Edit edit) = ⊤
 IsEditCommand _ = ⊥
 
 -- an edit, for each kind that has it, or a group
-abbrev pub IsChange : Turn → Type 0
-IsChange (OfLine line) = (kind : Kind) → MatchResult (command kind line) IsEditCommand (λ number. ⊤)
-IsChange (OfGroup lines) = ⊤
+abbrev pub MakesEdits : Turn → Type 0
+MakesEdits (OfLine line) = (kind : Kind) → MatchResult (command kind line) IsEditCommand (λ number. ⊤)
+MakesEdits (OfGroup lines) = ⊤
 
 abbrev pub IsUndo : Turn → Type 0
 IsUndo (OfLine line) = (kind : Kind) → command kind line ≡ Ok commands.Undo

@@ -6,7 +6,7 @@ ghost use Rattle.dimacs_text.specs.Turns.{Turn};
 ghost use Rattle.session.specs.Marks.{AreMarks};
 ghost use Rattle.session.specs.Step.{SessionState};
 ghost use Rattle.engines.specs.Run.{Run};
-ghost use Rattle.run_laws.specs.Returned.{IsBack, IsMark, LeavesName};
+ghost use Rattle.run_laws.specs.Returned.{GivesName, IsBack, LeavesName};
 ghost use Rattle.run_laws.specs.Undone.{AllTurns, IsShow};
 
 /// A law, with nothing to run: where a moment is marked and shown, turns come of which none gives the name to another
@@ -14,7 +14,7 @@ ghost use Rattle.run_laws.specs.Undone.{AllTurns, IsShow};
 /// proof or without.
 pub fn back_shows_the_same()
     ensures { (proof : Bool) (name : List ℕ) (old new : SessionState) (mark first back last : Turn) (turns : List Turn) (marked shown moved again : List ℕ) (told : List (List ℕ))
-        → AreMarks old.marks → IsMark name mark → IsShow proof first → AllTurns (LeavesName name) turns → IsBack name back → IsShow proof last
+        → AreMarks old.marks → GivesName name mark → IsShow proof first → AllTurns (LeavesName name) turns → IsBack name back → IsShow proof last
         → length told ≡ length turns → ((number : ℕ) → marked ≢ refusal_line number) → ((number : ℕ) → moved ≢ refusal_line number)
         → Run old (mark ∷ first ∷ turns ++ back ∷ last ∷ []) (marked ∷ shown ∷ told ++ moved ∷ again ∷ []) new → again ≡ shown }
 {}

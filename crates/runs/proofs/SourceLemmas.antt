@@ -12,7 +12,7 @@ use Rattle.runs.specs.declared.read.ReadError.TheVariants as read_error
 use Rattle.runs.specs.Devices.{UsesSink, UsesSource, answer_failures, answer_whole, problem_failures, problem_whole}
 use Rattle.runs.specs.declared.end.Text.TheVariants as the
 use Rattle.runs.specs.declared.end.End.TheVariants.{Memory}
-use Rattle.runs.specs.Reading.{CountsRead, FailsLastRead, Gives, GivesAndLogs, IsRead, ReadsKnown, ReadsText, ReadsWhole, end_of, reads_all}
+use Rattle.runs.specs.Reading.{CountsRead, FailsLastRead, Gives, GivesAndLogs, IsRead, ReadsKnown, ReadsText, ReadsWhole, error_end, reads_all}
 use Rattle.dimacs_io.specs.Device.{text_of}
 use Rattle.dimacs_io.specs.declared.device.Sink as sink
 use Rattle.dimacs_io.specs.declared.device.Source as source
@@ -183,7 +183,7 @@ module _ {S : Type 0} (device : source.Ghosts S) where
   -- the reading of the problem ended the run
   pub UsesSource-problem : (e : ReadError) (old new : S) → IsRead false (device.given old) (device.given new) (device.ended new)
       → CountsRead {X = ProblemValue} (Err e) (device.failures old) (device.failures new) → FailsLastRead {X = ProblemValue} (Err e) (device.last_failed new)
-      → UsesSource device (problem_whole (end_of the.Problem e)) (problem_failures (end_of the.Problem e)) old new
+      → UsesSource device (problem_whole (error_end the.Problem e)) (problem_failures (error_end the.Problem e)) old new
   UsesSource-problem (read_error.Text text_fault.Memory) old new read counts last =
       record { read = read; failed = omega (arith, counts); last = λ one. absurd (omega (arith, one)) }
   UsesSource-problem (read_error.Text (text_fault.Fault number line)) old new read counts last =
@@ -191,7 +191,7 @@ module _ {S : Type 0} (device : source.Ghosts S) where
   UsesSource-problem read_error.Source old new read counts last = record { read = read; failed = counts; last = λ one. last }
 
   -- and nothing was read of the answer
-  pub UsesSource-no_answer : (e : ReadError) (old : S) → UsesSource device (answer_whole (end_of the.Problem e)) (answer_failures (end_of the.Problem e)) old old
+  pub UsesSource-no_answer : (e : ReadError) (old : S) → UsesSource device (answer_whole (error_end the.Problem e)) (answer_failures (error_end the.Problem e)) old old
   UsesSource-no_answer (read_error.Text text_fault.Memory) old = UsesSource-none false 0 old refl refl
   UsesSource-no_answer (read_error.Text (text_fault.Fault number line)) old = UsesSource-none false 0 old refl refl
   UsesSource-no_answer read_error.Source old = UsesSource-none false 0 old refl refl
@@ -199,7 +199,7 @@ module _ {S : Type 0} (device : source.Ghosts S) where
   -- the reading of the answer ended the run
   pub UsesSource-answer : (e : ReadError) (old new : S) → IsRead false (device.given old) (device.given new) (device.ended new)
       → CountsRead {X = Answer} (Err e) (device.failures old) (device.failures new) → FailsLastRead {X = Answer} (Err e) (device.last_failed new)
-      → UsesSource device (answer_whole (end_of the.Answer e)) (answer_failures (end_of the.Answer e)) old new
+      → UsesSource device (answer_whole (error_end the.Answer e)) (answer_failures (error_end the.Answer e)) old new
   UsesSource-answer (read_error.Text text_fault.Memory) old new read counts last =
       record { read = read; failed = omega (arith, counts); last = λ one. absurd (omega (arith, one)) }
   UsesSource-answer (read_error.Text (text_fault.Fault number line)) old new read counts last =
@@ -208,7 +208,7 @@ module _ {S : Type 0} (device : source.Ghosts S) where
 
   -- before that the problem was read
   pub UsesSource-problem_before : (e : ReadError) (old new : S) → UsesSource device true 0 old new
-      → UsesSource device (problem_whole (end_of the.Answer e)) (problem_failures (end_of the.Answer e)) old new
+      → UsesSource device (problem_whole (error_end the.Answer e)) (problem_failures (error_end the.Answer e)) old new
   UsesSource-problem_before (read_error.Text text_fault.Memory) old new used = UsesSource-whole false 0 old new refl used
   UsesSource-problem_before (read_error.Text (text_fault.Fault number line)) old new used = used
   UsesSource-problem_before read_error.Source old new used = used
@@ -221,13 +221,13 @@ module _ {O : Type 0} (device : sink.Ghosts O) where
   UsesSink-memory out = record { failed = omega arith; last = refl }
 
   -- or the reading of the problem ended the run
-  pub UsesSink-problem : (e : ReadError) (out : O) → UsesSink device (end_of the.Problem e) out out
+  pub UsesSink-problem : (e : ReadError) (out : O) → UsesSink device (error_end the.Problem e) out out
   UsesSink-problem (read_error.Text text_fault.Memory) out = UsesSink-memory out
   UsesSink-problem (read_error.Text (text_fault.Fault number line)) out = record { failed = omega arith; last = refl }
   UsesSink-problem read_error.Source out = record { failed = omega arith; last = refl }
 
   -- or that of the answer
-  pub UsesSink-answer : (e : ReadError) (out : O) → UsesSink device (end_of the.Answer e) out out
+  pub UsesSink-answer : (e : ReadError) (out : O) → UsesSink device (error_end the.Answer e) out out
   UsesSink-answer (read_error.Text text_fault.Memory) out = UsesSink-memory out
   UsesSink-answer (read_error.Text (text_fault.Fault number line)) out = record { failed = omega arith; last = refl }
   UsesSink-answer read_error.Source out = record { failed = omega arith; last = refl }

@@ -14,10 +14,10 @@ use Rattle.runs.specs.declared.end.End.{End}
 use Rattle.runs.specs.declared.end.End.TheVariants.{Refused, ReadFailed, Memory}
 
 -- how a run ends that meets the error in a text
-abbrev pub end_of : Text → ReadError → End
-end_of input (read_error.Text (text_fault.Fault number line)) = Refused input number line
-end_of input (read_error.Text text_fault.Memory) = Memory
-end_of input read_error.Source = ReadFailed input
+abbrev pub error_end : Text → ReadError → End
+error_end input (read_error.Text (text_fault.Fault number line)) = Refused input number line
+error_end input (read_error.Text text_fault.Memory) = Memory
+error_end input read_error.Source = ReadFailed input
 
 -- so many bytes came from a source
 pub record Gives (old new : Option (List ℕ)) (given : List ℕ) (left_old left_new : ℕ) : Type 0 where

@@ -27,11 +27,11 @@ pub enum ReadError {
 }
 
 impl ReadError {
-    ghost use Rattle.runs.specs.Reading.{end_of};
+    ghost use Rattle.runs.specs.Reading.{error_end};
 
     /// How a run ends that meets the error in a text.
     pub fn end(self, input: Text) -> End
-        ensures { result ≡ end_of input self }
+        ensures { result ≡ error_end input self }
     {
         match self {
             ReadError::Text(TextFault::Fault { number, line }) => End::Refused {

@@ -10,6 +10,6 @@ returns c =
       app = IfOk-weaker c.subcommand-3.result _ _ (λ r h. h.shape c.in_ok-check_command.ensures.local
           ∙ ap₂ with_subcommand (c.in_ok-subcommand-2.ensures.shape c.in_ok-session_command.ensures.local
           ∙ ap₂ with_subcommand (c.in_ok-subcommand.ensures.shape c.in_ok-solve_command.ensures.local
-          ∙ ap₂ with_subcommand c.named.ensures.app (ap top c.in_ok-solve_command.ensures.app))
+          ∙ ap₂ with_subcommand c.bare_program.ensures.app (ap top c.in_ok-solve_command.ensures.app))
           (ap top c.in_ok-session_command.ensures.app)) (ap top c.in_ok-check_command.ensures.app)) c.subcommand-3.ensures;
     }
