@@ -1,7 +1,9 @@
 -- When an answer is right, and what `check` writes of it.
 use Rattle.std.specs.Prelude.{◌≡◌, ℕ, ℤ, ◌-◌, ◌↔◌, IsTrue, Bool, true, false, List, [], ◌∷◌, ◌++◌, length, take, map, replicate, set, Option, None, Some, Ok, Err, IfSome, codes}
 use Rattle.std.specs.List.{AllZip}
-use Rattle.dimacs_io.specs.Device.{IsBeginning}
+use Rattle.dimacs_io.specs.Device.{IsBeginning, text_over}
+use Rattle.dimacs_io.specs.declared.device.Sink as sink
+use Rattle.dimacs_io.specs.declared.device.Source as source
 use Rattle.dimacs_text.specs.declared.problem.ArcRow.{ArcRow}
 use Rattle.dimacs_text.specs.declared.answer.FlowLine.{FlowLine}
 use Rattle.dimacs_text.specs.declared.answer.Answer.{Answer}
@@ -95,6 +97,12 @@ CheckOnDevices end problem_known problem_count answer_known answer_count before 
     IfSome problem_known (λ problem_text. IfSome answer_known (λ answer_text. IfSome before (λ held.
     (written : List ℕ) × (after ≡ Some (held ++ written))
     × CheckWrites end problem_text (take problem_count problem_text) answer_text (take answer_count answer_text) written)))
+
+-- the same by what sources and sink tell before and after
+abbrev pub CheckBetween : {P A O : Type 0} → source.Ghosts P → source.Ghosts A → sink.Ghosts O → End → P → P → A → A → O → O → Type 0
+CheckBetween problem answer out end old new asked told before after =
+    CheckOnDevices end (text_over problem.remaining problem.given old new) (problem.most_left old - problem.most_left new)
+    (text_over answer.remaining answer.given asked told) (answer.most_left asked - answer.most_left told) (out.contents before) (out.contents after)
 
 -- two texts of which the answer settles the problem
 pub record AreSettled (problem_text answer_text : List ℕ) : Type 0 where

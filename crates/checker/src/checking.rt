@@ -3,7 +3,7 @@ ghost use Rattle.std.specs.Prelude.{◌≡◌, ◌-◌, ◌^◌, ◌<◌, ◌↔
 ghost use Rattle.dimacs_io.specs.Calls.{PassesText};
 ghost use Rattle.dimacs_io.specs.Device.{RisesBy, text_over};
 ghost use Rattle.runs.specs.Devices.{UsesSink, UsesSource, answer_failures, answer_whole, flushes_by, problem_failures, problem_whole};
-ghost use Rattle.checker.specs.Check.{CheckOnDevices, NamesEnds, NameEnds, IsRight, Settles, ValidSettles, flow_of_lines, listed_marks, verdict_line};
+ghost use Rattle.checker.specs.Check.{CheckBetween, NamesEnds, NameEnds, IsRight, Settles, ValidSettles, flow_of_lines, listed_marks, verdict_line};
 
 use dimacs_io::{Broken, Sink, Source, write_all};
 use dimacs_text::{Answer, ArcRow, FlowLine, Problem};
@@ -27,12 +27,8 @@ pub fn check<P: Source, A: Source, O: Sink>(
 
     // `valid` is written exactly where the answer is right, and each end but that of memory has
     // its cause.
-    ensures check { CheckOnDevices result
-        (text_over P.remaining P.given problem.old problem.new)
-        (P.most_left problem.old - P.most_left problem.new)
-        (text_over A.remaining A.given answer.old answer.new)
-        (A.most_left answer.old - A.most_left answer.new)
-        (O.contents out.old) (O.contents out.new) }
+    ensures check { CheckBetween P.Source A.Source O.Sink result
+        problem.old problem.new answer.old answer.new out.old out.new }
     ensures best { ValidSettles result
         (text_over P.remaining P.given problem.old problem.new)
         (text_over A.remaining A.given answer.old answer.new) }

@@ -7,11 +7,11 @@ use Rattle.dimacs_text.specs.Answer.{answers}
 use Rattle.dimacs_text.specs.Reading.{ProblemValue, reads}
 use Rattle.dimacs_text.specs.declared.answer.Answer.{Answer}
 use Rattle.checker.specs.Check.{CheckOnDevices, CheckWrites}
-use Rattle.runs.specs.Devices.{answer_failures, problem_failures, write_failures}
+use Rattle.runs.specs.Devices.{answer_failures, command_failures, problem_failures, write_failures}
 use Rattle.runs.specs.declared.end.Text.TheVariants as the
 use Rattle.runs.specs.declared.end.End.{End}
 use Rattle.runs.specs.declared.end.End.TheVariants.{Solved, Infeasible, Ended, Valid, NotValid, Refused, ReadFailed, WriteFailed, Memory}
-use Rattle.engines.specs.Session.{SessionOnDevices, SessionWrites, command_failures}
+use Rattle.engines.specs.Session.{SessionOnDevices, SessionWrites}
 use Rattle.engines.specs.Solve.{SolveOnDevices, SolveWrites}
 
 -- a text that is a problem has no fault

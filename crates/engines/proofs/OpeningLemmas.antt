@@ -6,11 +6,10 @@ use Rattle.runs.specs.declared.end.End.{End}
 use Rattle.runs.specs.declared.read.ReadError.{ReadError}
 use Rattle.runs.specs.declared.read.ReadError.TheVariants as read_error
 use Rattle.dimacs_io.specs.Device.{RisesBy}
-use Rattle.runs.specs.Devices.{UsesSink, flushes_by}
+use Rattle.runs.specs.Devices.{UsesSink, command_failures, commands_whole, flushes_by}
 use Rattle.runs.specs.Reading.{error_end}
 use Rattle.dimacs_io.specs.declared.device.Sink as sink
 use Rattle.engines.specs.Opening.{EndsWithoutSession}
-use Rattle.engines.specs.Session.{command_failures, commands_whole}
 use Rattle.runs.proofs.SourceLemmas.{UsesSink-memory, UsesSink-problem}
 use Rattle.engines.proofs.FlushLemmas.{RisesBy-none}
 

@@ -1,6 +1,8 @@
 -- What a session writes.
-use Rattle.std.specs.Prelude.{◌≡◌, ℕ, Bool, true, false, ◌+◌, List, [], ◌++◌, take, ◌⊎◌, Option, None, Some, Err, IfSome}
-use Rattle.dimacs_io.specs.Device.{IsBeginning, RisesBy}
+use Rattle.std.specs.Prelude.{◌≡◌, ℕ, ◌+◌, ◌-◌, List, [], ◌++◌, take, ◌⊎◌, Option, None, Some, Err, IfSome}
+use Rattle.dimacs_io.specs.Device.{IsBeginning, RisesBy, text_over}
+use Rattle.dimacs_io.specs.declared.device.Sink as sink
+use Rattle.dimacs_io.specs.declared.device.Source as source
 use Rattle.dimacs_lines.specs.declared.fault.TextFault.TheVariants.{Fault}
 use Rattle.dimacs_lines.specs.Lines.{Line, parts_of, lines_of}
 use Rattle.dimacs_lines.specs.Stream.{decided}
@@ -62,6 +64,12 @@ SessionOnDevices end extra problem_known problem_count commands_known commands_c
     (written : List ℕ) × (after ≡ Some (held ++ written))
     × SessionWrites end extra problem_text (take problem_count problem_text) commands (take commands_count commands) written)))
 
+-- the same by what sources and sink tell before and after
+abbrev pub SessionBetween : {P C O : Type 0} → source.Ghosts P → source.Ghosts C → sink.Ghosts O → End → ℕ → P → P → C → C → O → O → Type 0
+SessionBetween problem script out end extra old new asked served before after =
+    SessionOnDevices end extra (text_over problem.remaining problem.given old new) (problem.most_left old - problem.most_left new)
+    (text_over script.remaining script.given asked served) (script.most_left asked - script.most_left served) (out.contents before) (out.contents after)
+
 -- how many flushes of the sink went well, by how the session ends, over a command text and the first bytes of it that were given: one
 -- after what is told of the opening, and one after each reply; where a write failed, one for each of these but the one that it stopped
 abbrev pub SessionFlushes : End → List ℕ → List ℕ → ℕ → ℕ → Type 0
@@ -75,12 +83,7 @@ SessionFlushes _ commands given old new = new ≡ old
 abbrev pub FlushesOnDevices : End → Option (List ℕ) → ℕ → ℕ → ℕ → Type 0
 FlushesOnDevices end commands_known commands_count old new = IfSome commands_known (λ commands. SessionFlushes end commands (take commands_count commands) old new)
 
--- whether the commands were read to their end, by how the session ends
-abbrev pub commands_whole : End → Bool
-commands_whole Ended = true
-commands_whole _ = false
-
--- how many reads of the commands failed
-abbrev pub command_failures : End → ℕ
-command_failures (ReadFailed the.Commands) = 1
-command_failures _ = 0
+-- the same by what source and sink tell before and after
+abbrev pub FlushesBetween : {C O : Type 0} → source.Ghosts C → sink.Ghosts O → End → C → C → O → O → Type 0
+FlushesBetween script out end asked served before after =
+    FlushesOnDevices end (text_over script.remaining script.given asked served) (script.most_left asked - script.most_left served) (out.flushes before) (out.flushes after)

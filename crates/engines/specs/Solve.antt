@@ -1,6 +1,8 @@
 -- What `solve` writes.
-use Rattle.std.specs.Prelude.{◌≡◌, ℕ, Bool, List, [], ◌++◌, take, Option, None, Some, Err, IfSome}
-use Rattle.dimacs_io.specs.Device.{IsBeginning}
+use Rattle.std.specs.Prelude.{◌≡◌, ℕ, ◌-◌, Bool, List, [], ◌++◌, take, Option, None, Some, Err, IfSome}
+use Rattle.dimacs_io.specs.Device.{IsBeginning, text_over}
+use Rattle.dimacs_io.specs.declared.device.Sink as sink
+use Rattle.dimacs_io.specs.declared.device.Source as source
 use Rattle.dimacs_lines.specs.declared.fault.TextFault.TheVariants.{Fault}
 use Rattle.dimacs_lines.specs.Stream.{decided}
 use Rattle.dimacs_text.specs.Reading.{ProblemValue, problem_rule, reads}
@@ -59,3 +61,8 @@ abbrev pub SolveOnDevices : End → Bool → Option (List ℕ) → ℕ → Optio
 SolveOnDevices end proof known count before after =
     IfSome known (λ text. IfSome before (λ held.
     (written : List ℕ) × (after ≡ Some (held ++ written)) × SolveWrites end proof text (take count text) written))
+
+-- the same by what source and sink tell before and after
+abbrev pub SolveBetween : {P O : Type 0} → source.Ghosts P → sink.Ghosts O → End → Bool → P → P → O → O → Type 0
+SolveBetween input out end proof old new before after =
+    SolveOnDevices end proof (text_over input.remaining input.given old new) (input.most_left old - input.most_left new) (out.contents before) (out.contents after)

@@ -2,14 +2,14 @@
 
 ghost use Rattle.std.specs.Prelude.{◌≡◌, ◌≢◌, ◌⊎◌, ℕ, Bool, List, length, Ok, Option, Some};
 ghost use Rattle.checker.specs.Check.{CheckOnDevices, ValidSettles};
-ghost use Rattle.runs.specs.Devices.{answer_failures, problem_failures, write_failures};
+ghost use Rattle.runs.specs.Devices.{answer_failures, command_failures, problem_failures, write_failures};
 ghost use Rattle.dimacs_text.specs.Answer.{answers};
 ghost use Rattle.dimacs_text.specs.Reading.{ProblemValue, reads};
 ghost use Rattle.dimacs_text.specs.declared.answer.Answer.{Answer};
 ghost use Rattle.runs.specs.declared.end.End.{End};
 ghost use Rattle.runs.specs.declared.end.End.TheVariants.{Solved, Infeasible, Ended, Valid, NotValid, Memory};
 ghost use Rattle.engines.specs.Claim.{Written, SolvesRightly, ServesRightly, JudgesRightly, RefusedTurnsChangeNothing, UndoRestores};
-ghost use Rattle.engines.specs.Session.{SessionOnDevices, command_failures};
+ghost use Rattle.engines.specs.Session.{SessionOnDevices};
 ghost use Rattle.engines.specs.Solve.{SolveOnDevices};
 
 /// A law, with nothing to run: what the contracts of `solve`, `run_session` and `check` come to if the texts are known

@@ -1,15 +1,15 @@
 //! Runs a session: reads its problem, and then its commands, each turn of which is answered before the next.
 ghost use Rattle.std.specs.Prelude.{◌≡◌, ◌-◌, ◌^◌, ◌<◌};
 ghost use Rattle.dimacs_io.specs.Calls.{PassesText, ReadsPiece};
-ghost use Rattle.dimacs_io.specs.Device.{Fails, text_over};
+ghost use Rattle.dimacs_io.specs.Device.{Fails};
 ghost use Rattle.dimacs_io.specs.declared.device.LastCall.{LastCall};
 ghost use Rattle.dimacs_io.specs.declared.device.LastCall.TheVariants as last;
 ghost use Rattle.session.specs.Session.{present};
 ghost use Rattle.session.specs.Step.{state_of};
-ghost use Rattle.runs.specs.Devices.{UsesSink, UsesSource, last_by, problem_failures, problem_whole, write_failures};
+ghost use Rattle.runs.specs.Devices.{UsesSink, UsesSource, command_failures, commands_whole, last_by, problem_failures, problem_whole, write_failures};
 ghost use Rattle.engines.specs.Printing.{outcome_text};
 ghost use Rattle.engines.specs.Serving.{LeavesPassedOn, ServesCommands, ServesSession, TakesPiece, TakesRest, output_of, progress};
-ghost use Rattle.engines.specs.Session.{FlushesOnDevices, SessionOnDevices, command_failures, commands_whole};
+ghost use Rattle.engines.specs.Session.{FlushesBetween, SessionBetween};
 
 use crate::opening::open_text;
 use crate::reply::serve_line;
@@ -44,12 +44,8 @@ pub fn run_session<P: Source, C: Source, O: Sink>(
 
     // A run's printing is written, or its beginning at a failed call, and each end but that of
     // memory has its cause.
-    ensures session { SessionOnDevices result extra
-        (text_over P.remaining P.given problem.old problem.new)
-        (P.most_left problem.old - P.most_left problem.new)
-        (text_over C.remaining C.given script.old script.new)
-        (C.most_left script.old - C.most_left script.new)
-        (O.contents out.old) (O.contents out.new) }
+    ensures session { SessionBetween P.Source C.Source O.Sink result extra
+        problem.old problem.new script.old script.new out.old out.new }
 
     // Each text was read to its end where it was used. The end tells of each call that failed,
     // which was the last on its device. One flush passes on what is told of the opening, and one
@@ -59,10 +55,8 @@ pub fn run_session<P: Source, C: Source, O: Sink>(
     ensures script { UsesSource C.Source (commands_whole result) (command_failures result)
         script.old script.new }
     ensures out { UsesSink O.Sink result out.old out.new }
-    ensures out_flushed { FlushesOnDevices result
-        (text_over C.remaining C.given script.old script.new)
-        (C.most_left script.old - C.most_left script.new)
-        (O.flushes out.old) (O.flushes out.new) }
+    ensures out_flushed { FlushesBetween C.Source O.Sink result
+        script.old script.new out.old out.new }
 {
     match open_text(alloc, problem, extra) {
         Ok(session) => serve_session(session, script, out),

@@ -1,11 +1,11 @@
 //! Solves a problem, and writes the solution.
 ghost use Rattle.std.specs.Prelude.{◌≡◌, ◌-◌, ◌^◌, ◌<◌};
 ghost use Rattle.dimacs_io.specs.Calls.{PassesText};
-ghost use Rattle.dimacs_io.specs.Device.{RisesBy, text_over};
+ghost use Rattle.dimacs_io.specs.Device.{RisesBy};
 ghost use Rattle.runs.specs.Devices.{UsesSink, UsesSource, flushes_by, problem_failures, problem_whole};
 ghost use Rattle.session.specs.Session.{present};
 ghost use Rattle.engines.specs.Printing.{solution};
-ghost use Rattle.engines.specs.Solve.{SolveOnDevices, end_by};
+ghost use Rattle.engines.specs.Solve.{SolveBetween, end_by};
 
 use crate::opening::open_text;
 use crate::solution::write_solution;
@@ -26,10 +26,8 @@ pub fn solve<P: Source, O: Sink>(alloc: Global, input: &mut P, out: &mut O, proo
 
     // What is written is the printing of what is settled, and each end but that of memory has
     // its cause.
-    ensures solve { SolveOnDevices result proof
-        (text_over P.remaining P.given input.old input.new)
-        (P.most_left input.old - P.most_left input.new)
-        (O.contents out.old) (O.contents out.new) }
+    ensures solve { SolveBetween P.Source O.Sink result proof
+        input.old input.new out.old out.new }
 
     // The text was read to its end where it was used. The end tells of each call that failed,
     // which was the last on its device, and one flush passes on what is written.

@@ -7,7 +7,7 @@ use Rattle.dimacs_io.specs.declared.device.Sink as sink
 use Rattle.dimacs_io.specs.declared.device.Source as source
 use Rattle.runs.specs.declared.end.Text.TheVariants as the
 use Rattle.runs.specs.declared.end.End.{End}
-use Rattle.runs.specs.declared.end.End.TheVariants.{Solved, Infeasible, Valid, NotValid, Refused, ReadFailed, WriteFailed, Memory}
+use Rattle.runs.specs.declared.end.End.TheVariants.{Solved, Infeasible, Ended, Valid, NotValid, Refused, ReadFailed, WriteFailed, Memory}
 use Rattle.runs.specs.Reading.{SourceIsRead}
 
 -- ---- which texts were read to their ends
@@ -26,6 +26,11 @@ answer_whole NotValid = true
 answer_whole WriteFailed = true
 answer_whole _ = false
 
+-- the commands, where they are answered to the last
+abbrev pub commands_whole : End → Bool
+commands_whole Ended = true
+commands_whole _ = false
+
 -- ---- how many calls failed on each device
 
 abbrev pub problem_failures : End → ℕ
@@ -35,6 +40,10 @@ problem_failures _ = 0
 abbrev pub answer_failures : End → ℕ
 answer_failures (ReadFailed the.Answer) = 1
 answer_failures _ = 0
+
+abbrev pub command_failures : End → ℕ
+command_failures (ReadFailed the.Commands) = 1
+command_failures _ = 0
 
 abbrev pub write_failures : End → ℕ
 write_failures WriteFailed = 1
