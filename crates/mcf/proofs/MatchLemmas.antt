@@ -1,16 +1,16 @@
 -- What the getters of a parse say of its rows.
-use Rattle.std.proofs.Common.{◌≡◌, ◌==◌, ℕ, ◌<◌, ◌≤◌, ◌^◌, Bool, true, false, List, [], ◌∷◌, drop, length, Option, None, Some, Result, Ok, Err, refl, sym, ap, ap₂, ◌∙◌, arith}
+use Rattle.std.proofs.Common.{◌≡◌, ◌==◌, ℕ, ◌<◌, ◌≤◌, ◌^◌, Bool, true, false, List, [], ◌∷◌, drop, length, Option, None, Some, Result, Ok, Err, inl, inr, refl, sym, ap, ap₂, subst, ◌∙◌, arith}
 use Rattle.std.specs.Prelude.{cond, is_some, option_map, slice_index, unwrap_or, codes, ◌↔◌, Box}
 use Rattle.std.specs.Box.{box_value}
 use Rattle.std.specs.Str.Parse.{IsNumeral, ParsesBool, ParsesUnsigned, digits_value, without_leading_plus}
-use Rattle.std.proofs.lemmas.Bool.{false≢true, ne_eqb}
+use Rattle.std.proofs.lemmas.Bool.{cases_lt, false≢true, ne_eqb}
 use Rattle.std.proofs.lemmas.Str.Parse.{digit_from_value}
 use Rattle.clap.specs.Words.{App, Row, Text, ReadsOne, is_simple, subcommand_of, subcommand_rows}
 use Rattle.clap.specs.declared.parser.matches.SubCommand.{SubCommand}
 use Rattle.clap.specs.declared.parser.matches.ArgMatches.TheViews.{out-SubCommand}
 use Rattle.clap.proofs.OnLiterals.{clap_on_literals}
 use Rattle.dimacs_lines.specs.declared.numbers.TheConstants.{DIGIT_LIMIT}
-use Rattle.mcf.specs.Tasks.{IsExtra, program}
+use Rattle.mcf.specs.Tasks.{IsExtra, IsNoNumber, program}
 
 pub program_is_simple : is_simple program ≡ true
 unfolding clap_on_literals
@@ -43,6 +43,9 @@ drop_none : (word : Text) → drop 0 word ≡ word
 drop_none [] = refl
 drop_none (byte ∷ word) = refl
 
+unsigned_whole : (word : Text) → (slice_index word 0 == 43) ≡ false → without_leading_plus word ≡ word
+unsigned_whole word unsigned = ap (λ b. drop (cond b 1 0) word) unsigned ∙ drop_none word
+
 -- without the option there is room for 1,000 arcs more
 pub extra_is_left_out : (said : Option Text) → said ≡ None → IsExtra said 1000
 extra_is_left_out None none = refl
@@ -53,7 +56,7 @@ pub extra_is_said : (said : Option Text) (word : Text) (extra : ℕ) → said �
     → false ≡ (slice_index word 0 == 43) → length word ≤ DIGIT_LIMIT → extra ≤ 100000 → IsExtra said extra
 extra_is_said None word extra is parses unsigned short below = absurd cc
 extra_is_said (Some said) word extra is parses unsigned short below =
-    let same : without_leading_plus word ≡ word = ap (λ b. drop (cond b 1 0) word) (sym unsigned) ∙ drop_none word in
+    let same = unsigned_whole word (sym unsigned) in
     let numeral : IsNumeral 10 word = rw same at parses.0.0 in
     let value : extra ≡ digits_value 10 word = rw same at parses.1 in
     let says : IsNumeral 10 word × (length word ≤ DIGIT_LIMIT) × (extra ≤ 100000) × (extra ≡ digits_value 10 word) = (numeral, short, below, value) in
@@ -64,36 +67,24 @@ no_plus : (word : Text) → IsNumeral 10 word → (slice_index word 0 == 43) ≡
 no_plus [] is = refl
 no_plus (byte ∷ word) is = ne_eqb byte 43 (λ e. omega (arith, digit_from_value byte is.1.0))
 
-numeral_whole : (word : Text) → IsNumeral 10 word → without_leading_plus word ≡ word
-numeral_whole word is = ap (λ b. drop (cond b 1 0) word) (no_plus word is) ∙ drop_none word
-
 -- what is refused is no number as in a text
-module _ (word : Text) (extra : ℕ) where
-  said_by : (said : Option Text) → said ≡ Some word → IsExtra said extra → IsNumeral 10 word × (length word ≤ DIGIT_LIMIT) × (extra ≤ 100000) × (extra ≡ digits_value 10 word)
-  said_by None is says = absurd cc
-  said_by (Some said) is says = rw (← some_same said word is) says
+module _ (word : Text) where
+  pub none_unread : (IsNumeral 10 (without_leading_plus word) × (digits_value 10 (without_leading_plus word) < 2 ^ 32) → ⊥) → IsNoNumber word
+  none_unread unread = elim (cases_lt 100000 (digits_value 10 word)) [
+    | inl above ↦ inr (inr above)
+    | inr below ↦ inl (λ is.
+        let same = unsigned_whole word (no_plus word is) in
+        let small : digits_value 10 word < 2 ^ 32 = omega (arith, below) in
+        unread (rw same is, rw same small))
+  ]
 
-  pub none_unread : (said : Option Text) → said ≡ Some word → (IsNumeral 10 (without_leading_plus word) × (digits_value 10 (without_leading_plus word) < 2 ^ 32) → ⊥) → IsExtra said extra → ⊥
-  none_unread said is unread says =
-      let by = said_by said is says in
-      let same = numeral_whole word by.0 in
-      let below : digits_value 10 word < 2 ^ 32 = omega (arith, by.2, by.3) in
-      unread (rw same by.0, rw same below)
+  pub none_signed : true ≡ (slice_index word 0 == 43) → IsNoNumber word
+  none_signed signed = inl (λ is. false≢true (sym (no_plus word is) ∙ sym signed))
 
-  pub none_signed : (said : Option Text) → said ≡ Some word → true ≡ (slice_index word 0 == 43) → IsExtra said extra → ⊥
-  none_signed said is signed says =
-      let by = said_by said is says in
-      false≢true (sym (no_plus word by.0) ∙ sym signed)
-
-  pub none_long : (said : Option Text) → said ≡ Some word → DIGIT_LIMIT < length word → IsExtra said extra → ⊥
-  none_long said is long says = let by = said_by said is says in omega (arith, by.1, long)
-
-  pub none_above : (said : Option Text) (read : ℕ) → said ≡ Some word → read ≡ digits_value 10 (without_leading_plus word) → 100000 < read → IsExtra said extra → ⊥
-  none_above said read is value above says =
-      let by = said_by said is says in
-      let same = numeral_whole word by.0 in
-      let value' : read ≡ digits_value 10 word = rw same at value in
-      omega (arith, by.2, by.3, value', above)
+  pub none_above : (read : ℕ) → false ≡ (slice_index word 0 == 43) → read ≡ digits_value 10 (without_leading_plus word) → 100000 < read → IsNoNumber word
+  none_above read unsigned value above =
+      let value' : read ≡ digits_value 10 word = rw (unsigned_whole word (sym unsigned)) at value in
+      inr (inr (subst (λ (n : ℕ). 100000 < n) value' above))
 
 -- the subcommand that was used, by its name and its rows
 module _ {Z : Type 0} where

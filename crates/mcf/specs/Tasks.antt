@@ -1,5 +1,5 @@
 -- The commands of the program, and the task that the matches of a command line name.
-use Rattle.std.specs.Prelude.{◌≡◌, ◌↔◌, ◌≤◌, ℕ, pos, true, List, [], Option, Some, MatchOption, codes, length, option_map}
+use Rattle.std.specs.Prelude.{◌≡◌, ◌↔◌, ◌⊎◌, ◌<◌, ◌≤◌, ℕ, pos, true, List, [], Option, Some, MatchOption, codes, length, option_map}
 use Rattle.std.specs.Str.Parse.{IsNumeral, digits_value}
 use Rattle.clap.specs.Simple.{on_top}
 use Rattle.clap.specs.Words.{App, HasKind, Row, Rule, Text, fault_of, first_of, kind_of, one_of, new_app, new_rule, subcommand_of, takes, with_rule, with_subcommand}
@@ -65,9 +65,14 @@ Names used (Session problem extra) = (rows : List Row) × (used ≡ Some (codes 
 Names used (Check problem answer) = (rows : List Row) × (used ≡ Some (codes "check", rows))
     × (first_of (codes "problem") rows ≡ Some problem.now) × (first_of (codes "answer") rows ≡ Some answer.now)
 
--- the word of `--extra` is no number as in a text
+-- it is not of digits alone, has more than 18 of them, or says more than 100,000
+abbrev pub IsNoNumber : Text → Type 0
+IsNoNumber word = (IsNumeral 10 word → ⊥) ⊎ ((DIGIT_LIMIT < length word) ⊎ (100000 < digits_value 10 word))
+
+-- the word of `--extra` is no number as in a text; of such words `clap` takes those with a sign, as `+5` and `-0`, and
+-- those with many zeros in front
 abbrev pub SaysNoNumber : List Row → Type 0
-SaysNoNumber rows = (extra : ℕ) → IsExtra (first_of (codes "extra") rows) extra → ⊥
+SaysNoNumber rows = (word : Text) × (first_of (codes "extra") rows ≡ Some word) × IsNoNumber word
 
 -- a session is refused for that
 abbrev pub IsNotANumber : List Row → Usage → Type 0

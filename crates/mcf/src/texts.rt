@@ -20,7 +20,8 @@ pub trait Texts {
 
     /// Opens the file of this name for reading.
     fn open(&self, path: &str) -> io::Result<Self::File>
-        ensures bytes { IfOk result (λ opened. Self.File.remaining opened ≡ file self.now path.now) }
+        ensures bytes { IfOk result (λ opened.
+            Self.File.remaining opened ≡ file self.now path.now) }
         ensures given { IfOk result (λ opened. Self.File.given opened ≡ []) }
         ensures failures { IfOk result (λ opened. Self.File.failures opened ≡ 0) };
 

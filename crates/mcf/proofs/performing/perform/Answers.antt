@@ -10,8 +10,5 @@ perform_on_texts-requires g c = search rules
 pub returns-clause-performed : goal.returns-clause-performed
 returns-clause-performed g c = search rules
 
-pub returns-clause-out_failed : goal.returns-clause-out_failed
-returns-clause-out_failed g c = search rules
-
-pub returns-clause-out_last : goal.returns-clause-out_last
-returns-clause-out_last g c = search rules
+pub returns-clause-out : goal.returns-clause-out
+returns-clause-out g c = search rules
