@@ -7,7 +7,8 @@ use Rattle.dimacs_text.specs.declared.answer.FlowLine.{FlowLine}
 use Rattle.dimacs_text.specs.declared.answer.Answer.TheVariants.{Flow}
 use Rattle.dimacs_text.specs.Answer.{answers}
 use Rattle.dimacs_text.proofs.SaidLemmas.{said_of_nothing}
-use Rattle.answer_laws.specs.Text.{FlowsFit, PotentialsFit, flow_lines, potential_lines, written}
+use Rattle.engines.specs.Printing.{potential_lines}
+use Rattle.answer_laws.specs.Text.{FlowsFit, PotentialsFit, written, written_flows}
 use Rattle.dimacs_lines.proofs.Written.{integer_written}
 use Rattle.dimacs_lines.proofs.Cutting.{joined, joined-append, AllPlain, AllPlain-append, lines_joined}
 use Rattle.answer_laws.proofs.Steps.{Reads, Reads-append, faultless, said_at_end, told, nothing_told, s_line, f_line, v_line, value_reads, flow_reads, flow_plain, potential_reads, potential_plain, same_number}
@@ -67,7 +68,7 @@ three a b c y = simp append_assoc refl
 two : (a c y : List ℕ) → a ++ 32 ∷ [] ++ c ++ 10 ∷ [] ++ y ≡ (a ++ 32 ∷ c) ++ 10 ∷ y
 two a c y = simp append_assoc refl
 
-flows_text : (ls : List FlowLine) → flow_lines ls ≡ joined (f_lines ls)
+flows_text : (ls : List FlowLine) → written_flows ls ≡ joined (f_lines ls)
 unfolding f_lines
 flows_text [] = refl
 flows_text (l ∷ ls) = rw (flows_text ls) (ap (λ (t : List ℕ). 102 ∷ 32 ∷ t) (three (decimal l.tail) (decimal l.head) (signed_decimal l.flow) (joined (f_lines ls))))

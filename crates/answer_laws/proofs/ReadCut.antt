@@ -6,7 +6,8 @@ use Rattle.dimacs_lines.specs.Fields.{words_of}
 use Rattle.dimacs_text.specs.declared.answer.Answer.TheVariants.{Cut}
 use Rattle.dimacs_text.specs.Answer.{Said, answers, and_said, read_shortage, read_cut_node, last_node}
 use Rattle.dimacs_text.proofs.SaidLemmas.{said_of_nothing}
-use Rattle.answer_laws.specs.Text.{cut_lines, cut_written, ids_from}
+use Rattle.engines.specs.Printing.{breach_text, cut_lines}
+use Rattle.answer_laws.specs.Text.{ids_from}
 use Rattle.dimacs_lines.proofs.Written.{natural_written, last_word, letter_then, number_read}
 use Rattle.dimacs_lines.proofs.Cutting.{joined, AllPlain, lines_joined}
 use Rattle.answer_laws.proofs.Steps.{Reads, Reads-append, faultless, said_at_end, nothing_told, node_in, short_line, lt_true}
@@ -71,11 +72,11 @@ nodes_text id [] = refl
 nodes_text id (true ∷ marks) = rw (nodes_text (id + 1) marks) (ap (λ (t : List ℕ). 107 ∷ 32 ∷ t) (append_assoc (decimal id) (10 ∷ []) (joined (k_lines (id + 1) marks))))
 nodes_text id (false ∷ marks) = nodes_text (id + 1) marks
 
-pub cut_read : (nodes arcs d : ℕ) (marks : List Bool) → nodes < 10 ^ 18 → length marks ≡ nodes → d < 10 ^ 18 → answers nodes arcs (cut_written (pos d) marks) ≡ Ok (Cut (pos d) (ids_from 1 marks))
+pub cut_read : (nodes arcs d : ℕ) (marks : List Bool) → nodes < 10 ^ 18 → length marks ≡ nodes → d < 10 ^ 18 → answers nodes arcs (breach_text (pos d) marks) ≡ Ok (Cut (pos d) (ids_from 1 marks))
 unfolding answers
 cut_read nodes arcs d marks few one_a_node small =
     let lines = i_line d ∷ k_lines 1 marks in
-    let text : cut_written (pos d) marks ≡ joined lines = rw (nodes_text 1 marks) (ap (λ (t : List ℕ). 105 ∷ 32 ∷ t) (append_assoc (decimal d) (10 ∷ []) (joined (k_lines 1 marks)))) in
+    let text : breach_text (pos d) marks ≡ joined lines = rw (nodes_text 1 marks) (ap (λ (t : List ℕ). 105 ∷ 32 ∷ t) (append_assoc (decimal d) (10 ∷ []) (joined (k_lines 1 marks)))) in
     let plain : AllPlain lines = ((natural_written 18 d (omega arith) small (omega arith)).plain, nodes_plain nodes arcs d few 1 marks (omega (arith, one_a_node))) in
     let reads : Reads nodes arcs nothing_told lines (told_cut d (ids_from 1 marks)) = Reads-append nodes arcs (i_line d ∷ []) (k_lines 1 marks) nothing_told (told_cut d []) (told_cut d (ids_from 1 marks)) (shortage_reads nodes arcs d small) (nodes_read nodes arcs d few 1 [] marks (omega arith) (omega (arith, one_a_node)) (omega arith)) in
     rw (text, lines_joined lines plain, faultless nodes arcs [] lines nothing_told (told_cut d (ids_from 1 marks)) said_of_nothing reads, said_at_end nodes arcs [] lines nothing_told (told_cut d (ids_from 1 marks)) said_of_nothing reads) refl

@@ -2,7 +2,7 @@
 use Rattle.std.proofs.Common.{◌≡◌, ℕ, suc, ◌+◌, ◌-◌, ◌*◌, ◌<◌, ◌≤◌, ◌^◌, true, Ok, ℤ, pos, negsuc, ◌*ℤ◌, ◌≤ℤ◌, List, [], ◌∷◌, ◌++◌, length, get_or, unsigned_abs, append_assoc, refl, sym, ap, subst, ◌∙◌, arith}
 use Rattle.std.proofs.lemmas.Int.{ints}
 use Rattle.std.specs.List.{AllZip, AllByRecursion}
-use Rattle.dimacs_io.specs.Line.{value_line, flow_line, potential_line}
+use Rattle.dimacs_io.specs.Line.{value_line, flow_line}
 use Rattle.dimacs_text.specs.Reading.{ProblemValue}
 use Rattle.dimacs_text.specs.Lawful.{IsLawfulRow}
 use Rattle.dimacs_text.specs.declared.answer.FlowLine.{FlowLine}
@@ -21,9 +21,8 @@ use Rattle.flow_solver.specs.Answer.{IsAnswered, IsVerdict, IsBestMoment}
 use Rattle.flow_solver.specs.declared.verdict.Verdict.{Verdict}
 use Rattle.flow_solver.specs.declared.verdict.Verdict.TheVariants.{Best}
 use Rattle.checker.specs.Check.{IsRight, NameEnds, flow_of_lines}
-use Rattle.engines.specs.Printing as printing
-use Rattle.engines.specs.Printing.{solution, solution_by, best_text}
-use Rattle.answer_laws.specs.Text.{FlowsFit, PotentialsFit, written, flow_lines, potential_lines}
+use Rattle.engines.specs.Printing.{flow_lines, potential_lines, solution, solution_by}
+use Rattle.answer_laws.specs.Text.{FlowsFit, PotentialsFit, written, written_flows}
 use Rattle.answer_laws.proofs.Read.{written_read}
 
 -- ---- the lines
@@ -33,15 +32,11 @@ lines [] flow = []
 lines (arc ∷ arcs) [] = []
 lines (arc ∷ arcs) (x ∷ flow) = record { tail = arc.tail; head = arc.head; flow = x } ∷ lines arcs flow
 
-lines_text : (arcs : List ArcRow) (flow : List ℤ) → printing.flow_lines arcs flow ≡ flow_lines (lines arcs flow)
+lines_text : (arcs : List ArcRow) (flow : List ℤ) → flow_lines arcs flow ≡ written_flows (lines arcs flow)
 unfolding lines
 lines_text [] flow = refl
 lines_text (arc ∷ arcs) [] = refl
 lines_text (arc ∷ arcs) (x ∷ flow) = ap (λ (t : List ℕ). flow_line arc.tail arc.head x ++ t) (lines_text arcs flow)
-
-potentials_text : (id : ℕ) (ps : List ℤ) → printing.potential_lines id ps ≡ potential_lines id ps
-potentials_text id [] = refl
-potentials_text id (p ∷ ps) = ap (λ (t : List ℕ). potential_line id p ++ t) (potentials_text (id + 1) ps)
 
 lines_count : (arcs : List ArcRow) (flow : List ℤ) → AllWithinBounds arcs flow → length (lines arcs flow) ≡ length arcs
 unfolding lines
@@ -114,9 +109,8 @@ numbered_bounds (Sides marks) arcs flow p n room certified = certified.bounds
 
 -- ---- the printing
 
-text_is : (w : ℤ) (I : Instance) (flow : List ℤ) (ps : List ℤ) → value_line w ++ printing.flow_lines I.arcs flow ++ printing.potential_lines 1 ps ≡ written w (lines I.arcs flow) ps
-text_is w I flow ps =
-    rw (lines_text I.arcs flow, potentials_text 1 ps) (append_assoc (value_line w) (flow_lines (lines I.arcs flow)) (potential_lines 1 ps))
+text_is : (w : ℤ) (I : Instance) (flow : List ℤ) (ps : List ℤ) → value_line w ++ flow_lines I.arcs flow ++ potential_lines 1 ps ≡ written w (lines I.arcs flow) ps
+text_is w I flow ps = rw (lines_text I.arcs flow) (append_assoc (value_line w) (written_flows (lines I.arcs flow)) (potential_lines 1 ps))
 
 -- the room for arcs is no matter of legal flows
 without_room : (I : Instance) (room : ℕ) (D : Demand) (flow : List ℤ) → IsLegalBy D (record I { room = room }) flow → IsLegalBy D I flow
@@ -159,7 +153,7 @@ module _ (problem : ProblemValue) (m : Moment) (w : ℤ) (room : ℕ) (is : m.in
   printed : solution true m ≡ written w (lines I.arcs y) m.potentials
   printed =
       ap (λ (v : Verdict). solution_by v true m) told
-      ∙ ap (λ (J : Instance). value_line w ++ printing.flow_lines J.arcs (numbered_flow J.demand m.flow) ++ printing.potential_lines 1 m.potentials) is
+      ∙ ap (λ (J : Instance). value_line w ++ flow_lines J.arcs (numbered_flow J.demand m.flow) ++ potential_lines 1 m.potentials) is
       ∙ text_is w I y m.potentials
 
   read : answers problem.nodes (length problem.arcs) (solution true m) ≡ Ok (Flow w (lines I.arcs y) m.potentials)

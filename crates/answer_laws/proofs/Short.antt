@@ -3,7 +3,6 @@ use Rattle.std.proofs.Common.{◌≡◌, ℕ, zero, suc, ◌+◌, ◌-◌, ◌*�
 use Rattle.std.proofs.lemmas.Int.{ints}
 use Rattle.std.specs.List.{AllByRecursion}
 use Rattle.std.proofs.lemmas.List.Elements.{recursion_from_All}
-use Rattle.dimacs_io.specs.Line.{shortage_line, cut_line}
 use Rattle.dimacs_text.specs.Reading.{ProblemValue}
 use Rattle.dimacs_text.specs.Lawful.{IsLawfulRow, IsWithin}
 use Rattle.dimacs_text.specs.declared.answer.Answer.{Answer}
@@ -20,15 +19,10 @@ use Rattle.flow_solver.specs.declared.verdict.Verdict.{Verdict}
 use Rattle.flow_solver.specs.declared.verdict.Verdict.TheVariants.{Best, Infeasible}
 use Rattle.flow_solver.proofs.AnswerLemmas.{verdict_fits}
 use Rattle.checker.specs.Check.{IsRight, listed_marks, mark_all}
-use Rattle.engines.specs.Printing as printing
-use Rattle.engines.specs.Printing.{solution, solution_by}
-use Rattle.answer_laws.specs.Text.{cut_lines, cut_written, ids_from}
+use Rattle.engines.specs.Printing.{breach_text, solution, solution_by}
+use Rattle.answer_laws.specs.Text.{ids_from}
 use Rattle.answer_laws.proofs.ReadCut.{cut_read}
 use Rattle.answer_laws.proofs.Right.{best_is_right}
-
-cut_text : (id : ℕ) (marks : List Bool) → printing.cut_lines id marks ≡ cut_lines id marks
-cut_text id [] = refl
-cut_text id (mark ∷ marks) = ap (λ (t : List ℕ). cond mark (cut_line id) [] ++ t) (cut_text (id + 1) marks)
 
 -- ---- the marks of the nodes that are listed
 
@@ -144,13 +138,13 @@ module _ (problem : ProblemValue) (m : Moment) (d : ℤ) (room : ℕ) (is : m.in
   marks_are : listed_marks problem.nodes (ids_from 1 m.cut) ≡ m.cut
   marks_are = ap (λ (n : ℕ). mark_all (replicate n false) (ids_from 1 m.cut)) (sym one_a_node) ∙ marked [] m.cut
 
-  printed : solution true m ≡ cut_written d m.cut
-  printed = ap (λ (v : Verdict). solution_by v true m) told ∙ ap (λ (t : List ℕ). shortage_line d ++ t) (cut_text 1 m.cut)
+  printed : solution true m ≡ breach_text d m.cut
+  printed = ap (λ (v : Verdict). solution_by v true m) told
 
   pub cut_is_right : (a : Answer) × (answers problem.nodes (length problem.arcs) (solution true m) ≡ Ok a) × IsRight problem a
   cut_is_right = (
     Cut (pos small.0) (ids_from 1 m.cut),
-    ap (answers problem.nodes (length problem.arcs)) (printed ∙ ap (λ (z : ℤ). cut_written z m.cut) small.1) ∙ cut_read problem.nodes (length problem.arcs) small.0 m.cut (omega (arith, lawful.nodes.1)) one_a_node small.2,
+    ap (answers problem.nodes (length problem.arcs)) (printed ∙ ap (λ (z : ℤ). breach_text z m.cut) small.1) ∙ cut_read problem.nodes (length problem.arcs) small.0 m.cut (omega (arith, lawful.nodes.1)) one_a_node small.2,
     record {
       one_a_node = ap length marks_are ∙ one_a_node;
       breach = subst (λ (c : List Bool). IsBreach I (is_marked c) (pos small.0)) (sym marks_are) (subst (λ (z : ℤ). IsBreach I (is_marked m.cut) z) small.1 none.breach);
