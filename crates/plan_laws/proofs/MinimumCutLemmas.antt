@@ -1,5 +1,5 @@
 -- The nodes with a greatest potential below 0 are a minimum cut of a maximum flow.
-use Rattle.std.proofs.Common.{◌≡◌, ◌≢◌, ℕ, ◌≤◌, ◌==◌, ℤ, pos, negsuc, ◌-ℤ◌, ◌*ℤ◌, ◌≤ℤ◌, ◌<ℤ◌, Bool, true, false, not, ◌&&◌, if◌then◌else◌, List, [], ◌∷◌, refl, sym, ap, subst, ◌∙◌, arith, eqb-true, eq-eqb, true≢false}
+use Rattle.std.proofs.Common.{◌≡◌, ◌≢◌, ℕ, ◌≤◌, ◌==◌, ℤ, pos, negsuc, int_lt, ◌-ℤ◌, ◌*ℤ◌, ◌≤ℤ◌, ◌<ℤ◌, Bool, true, false, not, ◌&&◌, if◌then◌else◌, List, [], ◌∷◌, refl, sym, ap, subst, ◌∙◌, arith, eqb-true, eq-eqb, true≢false}
 use Rattle.std.proofs.lemmas.Int.{ints, by_lt_z}
 use Rattle.std.specs.List.{AllZip, AllByRecursion}
 use Rattle.dimacs_text.specs.declared.problem.ArcRow.{ArcRow}
@@ -11,7 +11,7 @@ use Rattle.flow_solver.specs.declared.verdict.Verdict.{Verdict}
 use Rattle.flow_solver.specs.declared.verdict.Verdict.TheVariants.{Best, Infeasible}
 use Rattle.flow_solver.specs.Answer.{IsAnswered, IsVerdict}
 use Rattle.flow_solver.specs.Moment.{Moment}
-use Rattle.plan_laws.specs.MinimumCut.{IsSourceSide, capacity_of, is_negative, below_zero, ShowsMinimumCut}
+use Rattle.plan_laws.specs.MinimumCut.{IsSourceSide, capacity_of, below_zero, ShowsMinimumCut}
 use Rattle.network.proofs.IntegerAlgebra.{linear}
 use Rattle.network.proofs.Sums.{nodes_sum-same, nodes_sum-one}
 use Rattle.network.proofs.Cuts.{flow_across, flow_across-within, nodes_sum-across, lows}
@@ -19,17 +19,18 @@ use Rattle.network.proofs.Reduction.{made, rows_of, reduced_ends}
 
 -- ---- signs
 
-negative_is : (z : ℤ) → is_negative z ≡ true → z <ℤ pos 0
-negative_is (pos n) e = absurd (true≢false (sym e))
-negative_is (negsuc n) e = omega (arith, ints)
+negative_is : (z : ℤ) → int_lt z (pos 0) ≡ true → z <ℤ pos 0
+negative_is z e = omega (arith, ints)
 
-not_negative_is : (z : ℤ) → is_negative z ≡ false → pos 0 ≤ℤ z
-not_negative_is (pos n) e = omega (arith, ints)
-not_negative_is (negsuc n) e = absurd (true≢false e)
+not_negative_is : (z : ℤ) → int_lt z (pos 0) ≡ false → pos 0 ≤ℤ z
+not_negative_is z e = omega (arith, ints)
 
-is_negative_of : (z : ℤ) → z <ℤ pos 0 → is_negative z ≡ true
-is_negative_of (pos n) h = absurd (omega (arith, ints))
-is_negative_of (negsuc n) h = refl
+is_negative_of : (z : ℤ) → z <ℤ pos 0 → int_lt z (pos 0) ≡ true
+is_negative_of z h = by (int_lt z (pos 0)) refl
+  where
+    by : (t : Bool) → int_lt z (pos 0) ≡ t → int_lt z (pos 0) ≡ true
+    by true e = e
+    by false e = absurd (omega (arith, ints))
 
 -- z where it is below 0, and else 0
 abbrev capped : ℤ → ℤ
@@ -99,7 +100,7 @@ module _ (n source sink : ℕ) (arcs : List ArcRow) (fits : DemandFits n (Termin
 
   module _ (p : ℕ → ℤ) where
     -- an arc out of the set is full, and one into it empty
-    filled : (arc : ArcRow) (x : ℤ) → ArcFits (Terminals source sink) arc → FollowsSign p arc x → (s t : Bool) → is_negative (p arc.tail) ≡ s → is_negative (p arc.head) ≡ t
+    filled : (arc : ArcRow) (x : ℤ) → ArcFits (Terminals source sink) arc → FollowsSign p arc x → (s t : Bool) → below_zero p arc.tail ≡ s → below_zero p arc.head ≡ t
         → ((if s then pos 1 else pos 0) -ℤ (if t then pos 1 else pos 0)) *ℤ x ≡ (if s && not t then arc.cap else pos 0)
     filled arc x fit sign true true e f = omega (arith, ints)
     filled arc x fit sign false false e f = omega (arith, ints)
@@ -122,7 +123,7 @@ module _ (n source sink : ℕ) (arcs : List ArcRow) (fits : DemandFits n (Termin
     all_filled [] flow fit signs = refl
     all_filled (arc ∷ some) [] fit signs = absurd signs
     all_filled (arc ∷ some) (x ∷ flow) fit signs =
-        let here = filled arc x fit.0.1 signs.0 (is_negative (p arc.tail)) (is_negative (p arc.head)) refl refl in
+        let here = filled arc x fit.0.1 signs.0 (below_zero p arc.tail) (below_zero p arc.head) refl refl in
         let rest = all_filled some flow fit.1 signs.1 in
         omega (arith, linear)
 
@@ -183,7 +184,7 @@ module _ (n source sink : ℕ) (arcs : List ArcRow) (fits : DemandFits n (Termin
       below_is_side greatest =
           let zero = sink_is_zero greatest in
           let below = source_below in
-          record { source_in = is_negative_of (p source) (omega (arith, linear)); sink_out = ap is_negative zero }
+          record { source_in = is_negative_of (p source) (omega (arith, linear)); sink_out = ap (λ (z : ℤ). int_lt z (pos 0)) zero }
 
 shown_by : (n : ℕ) (D : Demand) (arcs : List ArcRow) (room : ℕ) (flow : List ℤ) (p : ℕ → ℤ) → IsLawful (made n D arcs room) → IsLegal (made n D arcs room) flow → IsCertified (made n D arcs room) flow p
     → IsGreatestPotential (reduced (made n D arcs room)) (reduced_flow (made n D arcs room) flow) p → worth (made n D arcs room) flow <ℤ RETURN_CAP → ShowsMinimumCut D (made n D arcs room) flow p
