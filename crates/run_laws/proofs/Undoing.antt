@@ -76,16 +76,19 @@ change_step (OfGroup lines) old new reply is accepts step =
 pub accepts_by : (text : List ℕ) (reply : Reply) (m : Moment) → text ≡ reply_text reply m → ((number : ℕ) → text ≢ refusal_line number) → Accepts reply
 accepts_by text reply m is never number e = never number (is ∙ ap (λ (r : Reply). reply_text r m) e)
 
-changes : (old new : SessionState) (turns : List Turn) (texts : List (List ℕ)) → AllTurns MakesEdits turns → NoneRefuses texts → Run old turns texts new
-    → Repeated Advances (length turns) old.moments new.moments
-changes old new [] [] are none run = ap (λ (s : SessionState). s.moments) run
-changes old new [] (text ∷ texts) are none run = absurd run
-changes old new (turn ∷ turns) [] are none run = absurd run
-changes old new (turn ∷ turns) (text ∷ texts) are none run = (
-  run.0.moments,
-  change_step turn old run.0 run.1 are.0 (accepts_by text run.1 run.0.moments.present run.3 none.0) run.2,
-  changes run.0 new turns texts are.1 none.1 run.4,
-)
+-- turns of which none is refused take as many steps
+module _ (Is : Turn → Type 0) (Steps : Timeline Moment → Timeline Moment → Type 0)
+    (steps : (turn : Turn) (old new : SessionState) (reply : Reply) → Is turn → Accepts reply → TurnStep old turn reply new → Steps old.moments new.moments) where
+  repeated : (old new : SessionState) (turns : List Turn) (texts : List (List ℕ)) → AllTurns Is turns → NoneRefuses texts → Run old turns texts new
+      → Repeated Steps (length turns) old.moments new.moments
+  repeated old new [] [] are none run = ap (λ (s : SessionState). s.moments) run
+  repeated old new [] (text ∷ texts) are none run = absurd run
+  repeated old new (turn ∷ turns) [] are none run = absurd run
+  repeated old new (turn ∷ turns) (text ∷ texts) are none run = (
+    run.0.moments,
+    steps turn old run.0 run.1 are.0 (accepts_by text run.1 run.0.moments.present run.3 none.0) run.2,
+    repeated run.0 new turns texts are.1 none.1 run.4,
+  )
 
 -- each change is one moment more to undo
 advanced : (n : ℕ) (old new : Timeline Moment) → Repeated Advances n old new → length new.past ≡ length old.past + n
@@ -95,18 +98,13 @@ advanced (suc n) old new more =
 
 -- ---- undos
 
-undo_line : (r : Result Command ℕ) (old new : SessionState) (reply : Reply) → r ≡ Ok commands.Undo → 0 < length old.moments.past
-    → MatchResult r (λ c. StepBy c old reply new) (λ number. IsRefused number old reply new) → StepsBack old.moments new.moments
-undo_line r old new reply is there step =
-    by (subst (λ (q : Result Command ℕ). MatchResult q (λ c. StepBy c old reply new) (λ number. IsRefused number old reply new)) is step)
+undo_step : (turn : Turn) (old new : SessionState) (reply : Reply) → IsUndo turn → 0 < length old.moments.past → TurnStep old turn reply new → StepsBack old.moments new.moments
+undo_step (OfLine line) old new reply is there step =
+    by (subst (λ (q : Result Command ℕ). MatchResult q (λ c. StepBy c old reply new) (λ number. IsRefused number old reply new)) (is (kind_of old.moments.present.instance.demand)) step)
   where
     by : StepBy commands.Undo old reply new → StepsBack old.moments new.moments
     by (inl undone) = undone.back
     by (inr none) = absurd (omega (arith, there, ap length none.0))
-
-undo_step : (turn : Turn) (old new : SessionState) (reply : Reply) → IsUndo turn → 0 < length old.moments.past → TurnStep old turn reply new → StepsBack old.moments new.moments
-undo_step (OfLine line) old new reply is there step =
-    let kind = kind_of old.moments.present.instance.demand in undo_line (command kind line) old new reply (is kind) there step
 undo_step (OfGroup lines) old new reply is there step = absurd is
 
 undos : (old new : SessionState) (turns : List Turn) (texts : List (List ℕ)) → AllTurns IsUndo turns → length turns ≤ length old.moments.past → Run old turns texts new
@@ -150,7 +148,7 @@ shows_the_same proof old new first last edits backs shown again told taken shows
     let ends = split run.0 new (edits ++ backs) (last ∷ []) (told ++ taken) (again ∷ [])
     (omega (arith, length-append told taken, length-append edits backs, count, taken_count)) run.4 in
     let parts = split run.0 ends.0 edits backs told taken count ends.1 in
-    let forward = changes run.0 parts.0 edits told are none parts.1 in
+    let forward = repeated MakesEdits Advances change_step run.0 parts.0 edits told are none parts.1 in
     let more = advanced (length edits) run.0.moments parts.0.moments forward in
     let back = undos parts.0 ends.0 backs taken undo (omega (arith, more, as_many)) parts.2 in
     let same = new_steps_undone (length edits) run.0.moments parts.0.moments ends.0.moments forward
@@ -168,16 +166,6 @@ told_undo (OfLine line) old new reply is accepts step =
     by (inl undone) = undone.back
     by (inr none) = absurd (accepts (step_number refusal.NothingToUndo) none.1.reply_is)
 told_undo (OfGroup lines) old new reply is accepts step = absurd is
-
-told_undos : (old new : SessionState) (turns : List Turn) (texts : List (List ℕ)) → AllTurns IsUndo turns → NoneRefuses texts → Run old turns texts new → Repeated StepsBack (length turns) old.moments new.moments
-told_undos old new [] [] are none run = ap (λ (s : SessionState). s.moments) run
-told_undos old new [] (text ∷ texts) are none run = absurd run
-told_undos old new (turn ∷ turns) [] are none run = absurd run
-told_undos old new (turn ∷ turns) (text ∷ texts) are none run = (
-  run.0.moments,
-  told_undo turn old run.0 run.1 are.0 (accepts_by text run.1 run.0.moments.present run.3 none.0) run.2,
-  told_undos run.0 new turns texts are.1 none.1 run.4,
-)
 
 -- each undo is one moment more to redo
 receded : (n : ℕ) (old new : Timeline Moment) → Repeated StepsBack n old new → length new.future ≡ length old.future + n
@@ -214,7 +202,7 @@ redone_shows_the_same proof old new first last backs forths shown again told tak
     let ends = split run.0 new (backs ++ forths) (last ∷ []) (told ++ taken) (again ∷ [])
     (omega (arith, length-append told taken, length-append backs forths, count, taken_count)) run.4 in
     let parts = split run.0 ends.0 backs forths told taken count ends.1 in
-    let back = told_undos run.0 parts.0 backs told undo none parts.1 in
+    let back = repeated IsUndo StepsBack told_undo run.0 parts.0 backs told undo none parts.1 in
     let more = receded (length backs) run.0.moments parts.0.moments back in
     let forward = redos parts.0 ends.0 forths taken redo (omega (arith, more, as_many)) parts.2 in
     let same = steps_redone (length backs) run.0.moments parts.0.moments ends.0.moments back
