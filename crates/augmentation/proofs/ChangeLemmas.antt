@@ -53,7 +53,7 @@ avoids_off rows k way (h ∷ hops) v w path off =
     off_both Backward Forward same off_v off_w is = off_w (sym (ap (λ (j : ℕ). start_at rows j Forward) same))
 
 -- a path that meets no node twice takes no arc twice
-apart_of : (rows : List ArcRow) (hops : List ResidualArc) (v w : ℕ) → IsPath rows hops v w → AllPairs ◌≢◌ (nodes_on rows hops v) → All (λ h. h.arc < length rows) hops → AreApart rows hops
+pub apart_of : (rows : List ArcRow) (hops : List ResidualArc) (v w : ℕ) → IsPath rows hops v w → AllPairs ◌≢◌ (nodes_on rows hops v) → All (λ h. h.arc < length rows) hops → AreApart rows hops
 apart_of rows [] v w path simple arcs = tt
 apart_of rows (h ∷ hops) v w path simple arcs =
     let rest = nodes_on rows hops (end_at rows h.arc h.way) in

@@ -9,11 +9,11 @@ use Rattle.network.proofs.Sums.{nodes_sum-same}
 use Rattle.network.proofs.Balance.{balance}
 
 -- the cost of a flow at reduced costs
-abbrev reduced_total : (ℕ → ℤ) → List ArcRow → List ℤ → ℤ
+abbrev pub reduced_total : (ℕ → ℤ) → List ArcRow → List ℤ → ℤ
 reduced_total p = flow_sum (λ arc x. reduced_cost p arc *ℤ x)
 
 -- it is the cost and what the potentials make of the nets
-reduced_total-split : (p : ℕ → ℤ) (arcs : List ArcRow) (flow : List ℤ)
+pub reduced_total-split : (p : ℕ → ℤ) (arcs : List ArcRow) (flow : List ℤ)
     → reduced_total p arcs flow ≡ total_cost arcs flow +ℤ flow_sum (λ arc x. (p arc.tail -ℤ p arc.head) *ℤ x) arcs flow
 reduced_total-split p [] flow = refl
 reduced_total-split p (arc ∷ arcs) [] = refl
@@ -24,7 +24,7 @@ reduced_total-split p (arc ∷ arcs) (x ∷ flow) =
     omega (arith, linear)
 
 -- on each arc the certified flow is as cheap as any other within the bounds
-reduced_le : (p : ℕ → ℤ) (arc : ArcRow) (x y : ℤ) → FollowsSign p arc x → IsWithinBounds arc x → IsWithinBounds arc y → (reduced_cost p arc *ℤ x) ≤ℤ (reduced_cost p arc *ℤ y)
+pub reduced_le : (p : ℕ → ℤ) (arc : ArcRow) (x y : ℤ) → FollowsSign p arc x → IsWithinBounds arc x → IsWithinBounds arc y → (reduced_cost p arc *ℤ x) ≤ℤ (reduced_cost p arc *ℤ y)
 reduced_le p arc x y sign bounds others =
     let c = reduced_cost p arc in
     by_lt_z (pos 0) c
@@ -33,7 +33,7 @@ reduced_le p arc x y sign bounds others =
     (λ cheap. let e = sign.cheap cheap in mul-le-mul_down c y x (omega (arith, linear)) (omega (arith, linear)))
     (λ least. let zero_is : c ≡ pos 0 = omega (arith, linear) in rw zero_is (omega (arith, ints))))
 
-reduced_total-le : (p : ℕ → ℤ) (arcs : List ArcRow) (flow other : List ℤ) → AllZip (FollowsSign p) arcs flow → AllWithinBounds arcs flow → AllWithinBounds arcs other
+pub reduced_total-le : (p : ℕ → ℤ) (arcs : List ArcRow) (flow other : List ℤ) → AllZip (FollowsSign p) arcs flow → AllWithinBounds arcs flow → AllWithinBounds arcs other
     → reduced_total p arcs flow ≤ℤ reduced_total p arcs other
 reduced_total-le p [] flow other sign bounds others = omega (arith, ints)
 reduced_total-le p (arc ∷ arcs) [] other sign bounds others = absurd bounds

@@ -1,62 +1,25 @@
 -- Potentials bound what other supplies cost, and wider bounds never make a best flow worse.
 use Rattle.std.proofs.Common.{◌≡◌, ℕ, ◌≤◌, ◌==◌, ◌||◌, Bool, true, false, ℤ, pos, neg_ℤ, ◌+ℤ◌, ◌-ℤ◌, ◌*ℤ◌, ◌≤ℤ◌, inl, inr, if◌then◌else◌, List, [], ◌∷◌, refl, sym, ap, ap₂, subst, ◌∙◌, arith}
-use Rattle.std.proofs.lemmas.Int.{ints, by_lt_z}
 use Rattle.std.specs.List.{AllZip, AllByRecursion}
 use Rattle.dimacs_text.specs.declared.problem.ArcRow.{ArcRow}
 use Rattle.dimacs_text.specs.Lawful.{IsLawfulRow}
-use Rattle.network.specs.Flow.{flow_sum, nodes_sum, net, MinCost, AllEndsAreNodes, IsNode, reduced_cost, FollowsSign, IsWithinBounds, AllWithinBounds, IsLegalFlow, total_cost, IsCertifiedFlow}
+use Rattle.network.specs.Flow.{flow_sum, nodes_sum, net, MinCost, AllEndsAreNodes, IsNode, AllWithinBounds, IsLegalFlow, total_cost, IsCertifiedFlow}
 use Rattle.network.specs.Instance.{Demand, Supplies, Terminals, Sides, Instance, ArcFits, IsLawful, IsLegal, IsChoice, IsAsGood, IsBest, at_node, chosen_at, is_marked, reduced, worth}
 use Rattle.plan_laws.specs.Prices.{resupplied, price_of, IsNoTighter, AreNoTighter, with_arcs, with_shipment, with_supplies}
-use Rattle.network.proofs.IntegerAlgebra.{linear, add-mul, mul-le-mul, mul-le-mul_down, mul-neg, mul-sub, sub-mul}
+use Rattle.network.proofs.IntegerAlgebra.{linear, mul-neg, mul-sub, sub-mul}
 use Rattle.network.proofs.Sums.{nodes_sum-one, nodes_sum-same, nodes_sum-sub}
 use Rattle.network.proofs.Balance.{balance}
+use Rattle.network.proofs.Optimality.{reduced_total-le, reduced_total-split}
 use Rattle.network.proofs.Reduction.{made, rows_of, reduced_ends}
 use Rattle.flow_solver.specs.Answer.{IsAnswered, IsBestMoment, IsVerdict}
 use Rattle.flow_solver.specs.Moment.{Moment}
 use Rattle.flow_solver.specs.declared.verdict.Verdict.{Verdict}
 use Rattle.flow_solver.specs.declared.verdict.Verdict.TheVariants.{Best}
 
--- ---- costs at reduced costs
-
--- the cost of a flow at reduced costs
-abbrev reduced_total : (ℕ → ℤ) → List ArcRow → List ℤ → ℤ
-reduced_total p = flow_sum (λ arc x. reduced_cost p arc *ℤ x)
-
--- it is the cost and what the potentials make of the nets
-reduced_total-split : (p : ℕ → ℤ) (arcs : List ArcRow) (flow : List ℤ)
-    → reduced_total p arcs flow ≡ total_cost arcs flow +ℤ flow_sum (λ arc x. (p arc.tail -ℤ p arc.head) *ℤ x) arcs flow
-reduced_total-split p [] flow = refl
-reduced_total-split p (arc ∷ arcs) [] = refl
-reduced_total-split p (arc ∷ arcs) (x ∷ flow) =
-    let rest = reduced_total-split p arcs flow in
-    let c : reduced_cost p arc ≡ arc.cost +ℤ (p arc.tail -ℤ p arc.head) = omega (arith, linear) in
-    let product = ap (λ (k : ℤ). k *ℤ x) c ∙ add-mul arc.cost (p arc.tail -ℤ p arc.head) x in
-    omega (arith, linear)
-
--- on each arc the certified flow is as cheap as any other within the bounds
-reduced_le : (p : ℕ → ℤ) (arc : ArcRow) (x y : ℤ) → FollowsSign p arc x → IsWithinBounds arc x → IsWithinBounds arc y → (reduced_cost p arc *ℤ x) ≤ℤ (reduced_cost p arc *ℤ y)
-reduced_le p arc x y sign bounds others =
-    let c = reduced_cost p arc in
-    by_lt_z (pos 0) c
-    (λ dear. let e = sign.dear dear in mul-le-mul c x y (omega (arith, linear)) (omega (arith, linear)))
-    (λ rest. by_lt_z c (pos 0)
-    (λ cheap. let e = sign.cheap cheap in mul-le-mul_down c y x (omega (arith, linear)) (omega (arith, linear)))
-    (λ least. let zero_is : c ≡ pos 0 = omega (arith, linear) in rw zero_is (omega (arith, ints))))
-
-reduced_total-le : (p : ℕ → ℤ) (arcs : List ArcRow) (flow other : List ℤ) → AllZip (FollowsSign p) arcs flow → AllWithinBounds arcs flow → AllWithinBounds arcs other
-    → reduced_total p arcs flow ≤ℤ reduced_total p arcs other
-reduced_total-le p [] flow other sign bounds others = omega (arith, ints)
-reduced_total-le p (arc ∷ arcs) [] other sign bounds others = absurd bounds
-reduced_total-le p (arc ∷ arcs) (x ∷ flow) [] sign bounds others = absurd others
-reduced_total-le p (arc ∷ arcs) (x ∷ flow) (y ∷ other) sign bounds others =
-    let here = reduced_le p arc x y sign.0 bounds.0 others.0 in
-    let rest = reduced_total-le p arcs flow other sign.1 bounds.1 others.1 in
-    omega (arith, linear)
-
 -- ---- other supplies
 
 -- what the potentials make of the nets of a legal flow is what they make of the supplies
-supplied : (I : MinCost) (p : ℕ → ℤ) (flow : List ℤ) → AllEndsAreNodes I → IsLegalFlow I flow
+pub supplied : (I : MinCost) (p : ℕ → ℤ) (flow : List ℤ) → AllEndsAreNodes I → IsLegalFlow I flow
     → nodes_sum I.nodes (λ v. p v *ℤ I.supply v) ≡ flow_sum (λ arc x. (p arc.tail -ℤ p arc.head) *ℤ x) I.arcs flow
 supplied I p flow ends legal =
     nodes_sum-same I.nodes _ _ (λ v b. ap (λ (s : ℤ). p v *ℤ s) (sym (legal.conserved v b))) ∙ balance I.nodes p I.arcs flow ends

@@ -1,15 +1,14 @@
 -- Edits and groups one after the other: what each moves, and what it leaves to send out, add up.
-use Rattle.std.proofs.Common.{◌≡◌, ◌≢◌, ℕ, zero, suc, ◌+◌, ◌<◌, ℤ, pos, ◌-ℤ◌, ◌+ℤ◌, ◌≤ℤ◌, Result, Ok, List, [], ◌∷◌, ◌++◌, length, unsigned_abs, refl, sym, ap, subst, ◌∙◌, arith}
+use Rattle.std.proofs.Common.{◌≡◌, ◌≢◌, ℕ, ◌+◌, ◌<◌, ℤ, pos, ◌-ℤ◌, ◌+ℤ◌, ◌≤ℤ◌, Result, List, [], ◌∷◌, ◌++◌, length, unsigned_abs, sym, ap, subst, ◌∙◌, arith}
 use Rattle.std.specs.List.{All}
 use Rattle.std.proofs.lemmas.Int.{ints}
-use Rattle.std.proofs.lemmas.List.{length-append}
 use Rattle.std.proofs.lemmas.List.Elements.{All-head, All-tail, All-cons, All-nil, All-weaker}
 use Rattle.dimacs_text.specs.declared.command.Edit.{Edit}
 use Rattle.dimacs_text.specs.declared.problem.Kind.{Kind}
 use Rattle.network.specs.Flow.{total_excess}
-use Rattle.network.specs.Instance.{Demand, Instance, is_marked, kind_of, reduced}
+use Rattle.network.specs.Instance.{Instance, is_marked, kind_of, reduced}
 use Rattle.network.specs.Instance.{at_node as at_potential}
-use Rattle.network.specs.Edited.{and_units, arc_of, edited, units, units_all}
+use Rattle.network.specs.Edited.{and_units, arc_of, units, units_all}
 use Rattle.residual_graph.specs.Residual.{number_at}
 use Rattle.flow_solver.specs.declared.verdict.Verdict.TheVariants.{Best}
 use Rattle.flow_solver.specs.Answer.{IsAnswered}

@@ -1,7 +1,7 @@
 -- Pushes alter each flow by no more than what they lower the total excess by.
 use Rattle.std.proofs.Common.{◌≡◌, ◌≢◌, ◌⊎◌, ℕ, zero, suc, ◌+◌, ◌-◌, ◌<◌, ◌≤◌, ℤ, pos, negsuc, ◌-ℤ◌, ◌+ℤ◌, ◌≤ℤ◌, Bool, List, [], ◌∷◌, length, drop, Some, unsigned_abs, refl, sym, ap, subst, ◌∙◌, inl, inr, arith}
 use Rattle.std.specs.Prelude.{slice_index_or, slice_set}
-use Rattle.std.specs.List.{All, AllPairs, AllByRecursion}
+use Rattle.std.specs.List.{All, AllByRecursion}
 use Rattle.std.proofs.lemmas.Int.{ints}
 use Rattle.std.proofs.lemmas.Bool.{cases_eq, cases_lt}
 use Rattle.std.proofs.lemmas.List.{length-append, length-set, get_or-set_other, get_or_append_left, get_or_past, ext_get_or}
@@ -22,9 +22,10 @@ use Rattle.network.proofs.Reduction.{made, rows_of, reduced_ends, flow_to_reduce
 use Rattle.residual_graph.specs.declared.residual.ResidualArc.{ResidualArc}
 use Rattle.residual_graph.specs.declared.residual.Way.{Way}
 use Rattle.residual_graph.specs.declared.residual.Way.TheVariants.{Forward, Backward}
-use Rattle.residual_graph.specs.Residual.{end_at, number_at, row_at, start_at}
-use Rattle.augmentation.specs.Push.{IsPath, IsPush, IsShift, Pushes, at_node, moved, nodes_on, push_along}
-use Rattle.augmentation.proofs.PushLemmas.{AreApart, Avoids, IsShift-along, at_other, at_same, net-along}
+use Rattle.residual_graph.specs.Residual.{number_at, row_at, start_at}
+use Rattle.augmentation.specs.Push.{IsPath, IsPush, IsShift, Pushes, at_node, moved, push_along}
+use Rattle.augmentation.proofs.ChangeLemmas.{apart_of}
+use Rattle.augmentation.proofs.PushLemmas.{AreApart, IsShift-along, at_other, at_same, net-along}
 use Rattle.flow_solver.specs.declared.verdict.Verdict.{Verdict}
 use Rattle.flow_solver.specs.declared.verdict.Verdict.TheVariants.{Best, Infeasible}
 use Rattle.flow_solver.specs.Answer.{IsAnswered, IsVerdict}
@@ -33,45 +34,6 @@ use Rattle.flow_solver.specs.Moment.{IsWellFormed, Moment}
 use Rattle.plan_laws.specs.Stability.{IsLeftOut, MovesWithin}
 use Rattle.flow_solver.specs.TablesView.{flow_index}
 use Rattle.flow_solver.proofs.GroupLemmas.{grown_all, units_one}
-
--- ---- the arcs of a path
-
-AllPairs-head : {X : Type 0} (R : X → X → Type 0) (x : X) (xs : List X) → AllPairs R (x ∷ xs) → All (R x) xs
-AllPairs-head R x xs all j d lt = all 0 (suc j) d (omega arith) (omega arith)
-
-AllPairs-tail : {X : Type 0} (R : X → X → Type 0) (x : X) (xs : List X) → AllPairs R (x ∷ xs) → AllPairs R xs
-AllPairs-tail R x xs all i j d lt below = all (suc i) (suc j) d (omega arith) (omega arith)
-
-first_on : (P : ℕ → Type 0) (rows : List ArcRow) (hops : List ResidualArc) (v : ℕ) → All P (nodes_on rows hops v) → P v
-first_on P rows [] v all = All-head P v [] all
-first_on P rows (h ∷ hops) v all = All-head P v (nodes_on rows hops (end_at rows h.arc h.way)) all
-
-avoids_off : (rows : List ArcRow) (k : ℕ) (way : Way) (hops : List ResidualArc) (v w : ℕ) → IsPath rows hops v w → All (λ u. start_at rows k way ≢ u) (nodes_on rows hops v) → Avoids k hops
-avoids_off rows k way [] v w path off = tt
-avoids_off rows k way (h ∷ hops) v w path off =
-    let rest = nodes_on rows hops (end_at rows h.arc h.way) in
-    let off_start : start_at rows k way ≢ v = All-head (λ u. start_at rows k way ≢ u) v rest off in
-    let off_rest = All-tail (λ u. start_at rows k way ≢ u) v rest off in
-    let off_end : start_at rows k way ≢ end_at rows h.arc h.way = first_on (λ u. start_at rows k way ≢ u) rows hops (end_at rows h.arc h.way) off_rest in (
-      λ same. off_both h.way way same off_start off_end path.0,
-      avoids_off rows k way hops (end_at rows h.arc h.way) w path.1 off_rest,
-    )
-  where
-    off_both : (a b : Way) → h.arc ≡ k → start_at rows k b ≢ v → start_at rows k b ≢ end_at rows h.arc a → start_at rows h.arc a ≡ v → ⊥
-    off_both Forward Forward same off_v off_w is = off_v (sym (ap (λ (j : ℕ). start_at rows j Forward) same) ∙ is)
-    off_both Backward Backward same off_v off_w is = off_v (sym (ap (λ (j : ℕ). start_at rows j Backward) same) ∙ is)
-    off_both Forward Backward same off_v off_w is = off_w (sym (ap (λ (j : ℕ). start_at rows j Backward) same))
-    off_both Backward Forward same off_v off_w is = off_w (sym (ap (λ (j : ℕ). start_at rows j Forward) same))
-
-apart_of : (rows : List ArcRow) (hops : List ResidualArc) (v w : ℕ) → IsPath rows hops v w → AllPairs ◌≢◌ (nodes_on rows hops v) → All (λ h. h.arc < length rows) hops → AreApart rows hops
-apart_of rows [] v w path simple arcs = tt
-apart_of rows (h ∷ hops) v w path simple arcs =
-    let rest = nodes_on rows hops (end_at rows h.arc h.way) in
-    let off : All (λ u. start_at rows h.arc h.way ≢ u) rest = All-weaker (λ u. v ≢ u) (λ u. start_at rows h.arc h.way ≢ u) (λ u ne same. ne (sym path.0 ∙ same)) rest (AllPairs-head ◌≢◌ v rest simple) in (
-      All-head (λ g. g.arc < length rows) h hops arcs,
-      avoids_off rows h.arc h.way hops (end_at rows h.arc h.way) w path.1 off,
-      apart_of rows hops (end_at rows h.arc h.way) w path.1 (AllPairs-tail ◌≢◌ v rest simple) (All-tail (λ g. g.arc < length rows) h hops arcs),
-    )
 
 -- ---- one push
 

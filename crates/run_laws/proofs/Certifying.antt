@@ -1,38 +1,16 @@
 -- Potentials that certify one flow of least cost certify each.
-use Rattle.std.proofs.Common.{◌≡◌, ℕ, ℤ, pos, ◌+ℤ◌, ◌-ℤ◌, ◌*ℤ◌, ◌≤ℤ◌, ◌<ℤ◌, List, [], ◌∷◌, length, ◌≤◌, refl, sym, ap, ◌∙◌, arith}
-use Rattle.std.proofs.lemmas.Int.{ints, by_lt_z}
+use Rattle.std.proofs.Common.{◌≡◌, ℕ, ℤ, pos, ◌-ℤ◌, ◌*ℤ◌, ◌≤ℤ◌, ◌<ℤ◌, List, [], ◌∷◌, length, ◌≤◌, ◌∙◌, arith}
+use Rattle.std.proofs.lemmas.Int.{by_lt_z}
 use Rattle.std.specs.List.{AllZip}
 use Rattle.dimacs_text.specs.declared.problem.ArcRow.{ArcRow}
-use Rattle.network.specs.Flow.{flow_sum, nodes_sum, MinCost, AllEndsAreNodes, IsWithinBounds, AllWithinBounds, IsLegalFlow, total_cost, reduced_cost, FollowsSign, IsCertifiedFlow}
-use Rattle.network.proofs.IntegerAlgebra.{linear, add-mul, mul-sub, mul-le-mul, mul-le-mul_down}
+use Rattle.network.specs.Flow.{MinCost, AllEndsAreNodes, IsWithinBounds, AllWithinBounds, IsLegalFlow, total_cost, reduced_cost, FollowsSign, IsCertifiedFlow}
+use Rattle.network.proofs.IntegerAlgebra.{linear, mul-sub, mul-le-mul, mul-le-mul_down}
 use borrow.Author.Differences.{same_in, product_is}
-use Rattle.network.proofs.Sums.{nodes_sum-same}
-use Rattle.network.proofs.Balance.{balance}
+use Rattle.network.proofs.Optimality.{reduced_le, reduced_total, reduced_total-le, reduced_total-split}
 use Rattle.network.proofs.Reduction.{rows_of, reduced_ends, assignment_to_reduced, flow_to_reduced, cost_is_value, made}
 use Rattle.network.specs.Flow.{net}
 use Rattle.network.specs.Instance.{Demand, Supplies, Terminals, Sides, Instance, IsLawful, IsBest, IsCertified, reduced}
-
-abbrev reduced_total : (ℕ → ℤ) → List ArcRow → List ℤ → ℤ
-reduced_total p = flow_sum (λ arc x. reduced_cost p arc *ℤ x)
-
-reduced_total-split : (p : ℕ → ℤ) (arcs : List ArcRow) (flow : List ℤ)
-    → reduced_total p arcs flow ≡ total_cost arcs flow +ℤ flow_sum (λ arc x. (p arc.tail -ℤ p arc.head) *ℤ x) arcs flow
-reduced_total-split p [] flow = refl
-reduced_total-split p (arc ∷ arcs) [] = refl
-reduced_total-split p (arc ∷ arcs) (x ∷ flow) =
-    let rest = reduced_total-split p arcs flow in
-    let c : reduced_cost p arc ≡ arc.cost +ℤ (p arc.tail -ℤ p arc.head) = omega (arith, linear) in
-    let product = ap (λ (k : ℤ). k *ℤ x) c ∙ add-mul arc.cost (p arc.tail -ℤ p arc.head) x in
-    omega (arith, linear)
-
-reduced_le : (p : ℕ → ℤ) (arc : ArcRow) (x y : ℤ) → FollowsSign p arc x → IsWithinBounds arc x → IsWithinBounds arc y → (reduced_cost p arc *ℤ x) ≤ℤ (reduced_cost p arc *ℤ y)
-reduced_le p arc x y sign bounds others =
-    let c = reduced_cost p arc in
-    by_lt_z (pos 0) c
-    (λ dear. let e = sign.dear dear in mul-le-mul c x y (omega (arith, linear)) (omega (arith, linear)))
-    (λ rest. by_lt_z c (pos 0)
-    (λ cheap. let e = sign.cheap cheap in mul-le-mul_down c y x (omega (arith, linear)) (omega (arith, linear)))
-    (λ least. let zero_is : c ≡ pos 0 = omega (arith, linear) in rw zero_is (omega (arith, ints))))
+use Rattle.plan_laws.proofs.PriceLemmas.{supplied}
 
 times_one : (c : ℤ) → c *ℤ pos 1 ≡ c
 times_one c = omega (arith, same_in, product_is)
@@ -63,16 +41,6 @@ follows p arc x y sign bounds others back = record {
   cheap = λ cheap. same_by_cheap (reduced_cost p arc) x y cheap (let e = sign.cheap cheap in omega (arith, linear)) back ∙ sign.cheap cheap;
 }
 
-total_le : (p : ℕ → ℤ) (arcs : List ArcRow) (flow other : List ℤ) → AllZip (FollowsSign p) arcs flow → AllWithinBounds arcs flow → AllWithinBounds arcs other
-    → reduced_total p arcs flow ≤ℤ reduced_total p arcs other
-total_le p [] flow other sign bounds others = omega (arith, ints)
-total_le p (arc ∷ arcs) [] other sign bounds others = absurd bounds
-total_le p (arc ∷ arcs) (x ∷ flow) [] sign bounds others = absurd others
-total_le p (arc ∷ arcs) (x ∷ flow) (y ∷ other) sign bounds others =
-    let here = reduced_le p arc x y sign.0 bounds.0 others.0 in
-    let rest = total_le p arcs flow other sign.1 bounds.1 others.1 in
-    omega (arith, linear)
-
 all_follow : (p : ℕ → ℤ) (arcs : List ArcRow) (flow other : List ℤ) → AllZip (FollowsSign p) arcs flow → AllWithinBounds arcs flow → AllWithinBounds arcs other
     → reduced_total p arcs other ≤ℤ reduced_total p arcs flow → AllZip (FollowsSign p) arcs other
 all_follow p [] [] [] sign bounds others back = tt
@@ -82,16 +50,14 @@ all_follow p (arc ∷ arcs) [] other sign bounds others back = absurd bounds
 all_follow p (arc ∷ arcs) (x ∷ flow) [] sign bounds others back = absurd others
 all_follow p (arc ∷ arcs) (x ∷ flow) (y ∷ other) sign bounds others back =
     let here = reduced_le p arc x y sign.0 bounds.0 others.0 in
-    let rest = total_le p arcs flow other sign.1 bounds.1 others.1 in
+    let rest = reduced_total-le p arcs flow other sign.1 bounds.1 others.1 in
     (follows p arc x y sign.0 bounds.0 others.0 (omega (arith, linear)), all_follow p arcs flow other sign.1 bounds.1 others.1 (omega (arith, linear)))
 
 pub certified_of_as_cheap : (I : MinCost) (x y : List ℤ) (p : ℕ → ℤ) → AllEndsAreNodes I → IsLegalFlow I x → IsLegalFlow I y → total_cost I.arcs y ≤ℤ total_cost I.arcs x
     → IsCertifiedFlow I x p → IsCertifiedFlow I y p
 certified_of_as_cheap I x y p ends legal other less certified =
-    let weight : (z : List ℤ) → IsLegalFlow I z → nodes_sum I.nodes (λ v. p v *ℤ I.supply v) ≡ flow_sum (λ arc x. (p arc.tail -ℤ p arc.head) *ℤ x) I.arcs z =
-    λ z k. nodes_sum-same I.nodes _ _ (λ v b. ap (λ (s : ℤ). p v *ℤ s) (sym (k.conserved v b))) ∙ balance I.nodes p I.arcs z ends in
-    let w = weight x legal in
-    let w' = weight y other in
+    let w = supplied I p x ends legal in
+    let w' = supplied I p y ends other in
     let s = reduced_total-split p I.arcs x in
     let s' = reduced_total-split p I.arcs y in
     record {
