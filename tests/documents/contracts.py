@@ -273,6 +273,26 @@ def wrong_rows(readme, architecture):
     return wrong, count
 
 
+def wrong_names(architecture, decisions):
+    """Which modules the steps of the solver have in ARCHITECTURE, and not in their crate; and which names of DECISIONS
+    are no crate's, no definition, function, law or lemma of one, no function of the Python package and none of std."""
+    wrong, count = [], 0
+    for crate, modules in re.findall(r"\(`(\w+)`: ((?:`\w+`(?:,\s+)?)+)\)", architecture.split("## The solver")[1]):
+        for module in re.findall(NAME, modules):
+            count += 1
+            if not (TOP / "crates" / crate / "src" / f"{module}.rt").is_file():
+                wrong.append(f"ARCHITECTURE: {crate} has no module {module}")
+    known = {"BufWriter", "AllocError", *CRATES, *definitions()}
+    for crate in CRATES:
+        known |= set(functions(crate))
+    for pattern, files in [(DEFINITION, "crates/*/proofs/**/*.antt"), (r"(?m)^def (\w+)", "python/src/mcf_plan/*.py")]:
+        for file in TOP.glob(files):
+            known |= set(re.findall(pattern, file.read_text()))
+    names = re.findall(r"`([A-Z]\w+|\w+_\w+|\w+::\w+)`", decisions)
+    wrong += [f"DECISIONS: nothing has the name {name}" for name in names if name not in known]
+    return wrong, count + len(names)
+
+
 def wrong_promise(readme, claim):
     """Which sentences of README's promise, its quotation, are not those of CLAIM for planners, word for word."""
     planner = re.sub(r"\s+", " ", claim.split("## For a planner")[1].split("\n## ")[0].replace("**", ""))
