@@ -7,6 +7,7 @@ ghost use Rattle.residual_graph.specs.Residual.{AreGreatest, ArePotentials, IsPs
 ghost use Rattle.shortest_paths.specs.Predecessor.{AllTraced, AreBounded, ComesAlong, IsTracedAt, arc_from, open_node, reduced_by, root_node};
 
 use dimacs_text::ArcRow;
+use network::reduced_cost;
 use residual_graph::{Graph, ResidualArc, Way};
 
 /// How a search came to a node, or how a node got a label below 0: by a residual arc from a node of lower rank.
@@ -128,7 +129,7 @@ fn comes_along(
         && reduced_along(row, labels, way) == 0
 }
 
-/// The reduced cost of the residual arc in this way along an arc: its cost, less what the labels of its ends pay for it.
+/// The reduced cost of the residual arc in this way along an arc.
 pub fn reduced_along(row: &ArcRow, labels: &[i64], way: Way) -> i64
     requires row { IsRow (length labels.now) row.now }
     requires labels { AreBounded potential_floor labels.now }
@@ -136,5 +137,5 @@ pub fn reduced_along(row: &ArcRow, labels: &[i64], way: Way) -> i64
 {
     let start = way.start(row) as usize;
     let end = way.end(row) as usize;
-    way.unit_cost(row) + labels[start] - labels[end]
+    reduced_cost(way.unit_cost(row), labels[start], labels[end])
 }
