@@ -15,11 +15,11 @@ use Rattle.residual_graph.specs.declared.residual.ResidualArc.{ResidualArc}
 use Rattle.residual_graph.specs.declared.residual.Way.{Way}
 use Rattle.residual_graph.specs.declared.residual.Way.TheVariants.{Forward, Backward}
 use Rattle.residual_graph.specs.Residual.{IsPseudoflow, IsWithinRow, end_at, number_at, room_of, row_at, start_at}
-use Rattle.augmentation.specs.Push.{ArePushes, HasRoom, IsPath, IsTransfer, left, moved, nodes_on, positive_part, push_along}
-use Rattle.augmentation.specs.Changes.{IsChange, IsNearer, IsWantedPath, RisesAt, wanted_along, wanted_of}
+use Rattle.augmentation.specs.Push.{ArePushes, HasRoom, IsPath, IsTransfer, left, moved, nodes_on, part_above_0, push_along}
+use Rattle.augmentation.specs.Changes.{IsAcyclicChange, IsNearer, IsWantedPath, RisesAt, wanted_along, wanted_of}
 use Rattle.augmentation.proofs.PushLemmas.{AreApart, Avoids, IsTransfer-put, at_other, at_same, net-along}
 use Rattle.augmentation.proofs.WantedPaths.{wanted_path}
-use Rattle.augmentation.proofs.SettleLemmas.{ArePushes-more, ArePushes-none, IsMoving, IsRoom, left-mono, moving_after, one_push, positive_part-mono}
+use Rattle.augmentation.proofs.SettleLemmas.{ArePushes-more, ArePushes-none, IsMoving, IsRoom, left-mono, moving_after, one_push, part_above_0-mono}
 
 -- ---- the arcs of a path
 
@@ -141,18 +141,18 @@ wanted_fits nodes rows x y (h ∷ hops) flow apart wanted = (
 )
 
 -- what lies in excess where a unit is taken, and where one is missing
-positive_part-one_less : (z w : ℤ) → w ≡ z -ℤ pos 1 → pos 1 ≤ℤ z → positive_part z ≡ suc (positive_part w)
-positive_part-one_less (pos m) (pos n) one some = omega (arith, ints, one)
-positive_part-one_less (pos m) (negsuc n) one some = absurd (omega (arith, ints, one, some))
-positive_part-one_less (negsuc m) w one some = absurd (omega (arith, ints, some))
+part_above_0-one_less : (z w : ℤ) → w ≡ z -ℤ pos 1 → pos 1 ≤ℤ z → part_above_0 z ≡ suc (part_above_0 w)
+part_above_0-one_less (pos m) (pos n) one some = omega (arith, ints, one)
+part_above_0-one_less (pos m) (negsuc n) one some = absurd (omega (arith, ints, one, some))
+part_above_0-one_less (negsuc m) w one some = absurd (omega (arith, ints, some))
 
-positive_part-none : (z : ℤ) → z ≤ℤ pos 0 → positive_part z ≡ 0
-positive_part-none (pos n) low = omega (arith, ints, low)
-positive_part-none (negsuc n) low = refl
+part_above_0-none : (z : ℤ) → z ≤ℤ pos 0 → part_above_0 z ≡ 0
+part_above_0-none (pos n) low = omega (arith, ints, low)
+part_above_0-none (negsuc n) low = refl
 
 -- ---- one unit from a node that has something to give to one that has something to take
 
-module _ {nodes : ℕ} {rows : List ArcRow} {x e y f : List ℤ} {ranks : List ℕ} (change : IsChange nodes rows x e y f ranks) (path : IsWantedPath nodes rows x e y f) where
+module _ {nodes : ℕ} {rows : List ArcRow} {x e y f : List ℤ} {ranks : List ℕ} (change : IsAcyclicChange nodes rows x e y f ranks) (path : IsWantedPath nodes rows x e y f) where
   -- what is left at the ends of the path, and what lies on its arcs, after one unit
   abbrev given : ℤ
   given = number_at e path.source -ℤ pos 1
@@ -232,7 +232,7 @@ module _ {nodes : ℕ} {rows : List ArcRow} {x e y f : List ℤ} {ranks : List �
       record { more = λ h. rises.more (towards.more h); less = λ h. rises.less (towards.less h) }
 
   -- what is left to change
-  change_after : IsChange nodes rows next_flow next_excess y f ranks
+  change_after : IsAcyclicChange nodes rows next_flow next_excess y f ranks
   change_after = record {
     before = moved_on.flow;
     after = change.after;
@@ -247,37 +247,37 @@ module _ {nodes : ℕ} {rows : List ArcRow} {x e y f : List ℤ} {ranks : List �
   -- one unit less lies in excess
   left_after : left e ≡ suc (left next_excess)
   left_after =
-      let first = sum_by-set positive_part e path.source given (pos 0) source_in in
-      let second = sum_by-set positive_part (slice_set e path.source given) path.target taken (pos 0) (omega (arith, target_in, length-set e path.source given)) in
-      let kept = ap positive_part target_kept in
+      let first = sum_by-set part_above_0 e path.source given (pos 0) source_in in
+      let second = sum_by-set part_above_0 (slice_set e path.source given) path.target taken (pos 0) (omega (arith, target_in, length-set e path.source given)) in
+      let kept = ap part_above_0 target_kept in
       omega (
         arith,
         first,
         second,
         kept,
-        positive_part-one_less (number_at e path.source) given refl in_excess,
-        positive_part-none (number_at e path.target) (omega (arith, ints, in_deficit)),
-        positive_part-none taken (omega (arith, ints, in_deficit)),
+        part_above_0-one_less (number_at e path.source) given refl in_excess,
+        part_above_0-none (number_at e path.target) (omega (arith, ints, in_deficit)),
+        part_above_0-none taken (omega (arith, ints, in_deficit)),
       )
 
 -- ---- all units
 
 -- no more lies in excess after a change than before
-left_not_more : {nodes : ℕ} {rows : List ArcRow} {x e y f : List ℤ} {ranks : List ℕ} → IsChange nodes rows x e y f ranks → left f ≤ left e
+left_not_more : {nodes : ℕ} {rows : List ArcRow} {x e y f : List ℤ} {ranks : List ℕ} → IsAcyclicChange nodes rows x e y f ranks → left f ≤ left e
 left_not_more {nodes} {rows} {x} {e} {y} {f} {ranks} change =
-    left-mono e f (change.after_sized ∙ sym change.excess_sized) (λ v. positive_part-mono (number_at f v) (number_at e v) (λ some. not_above v some (change.nearer v)))
+    left-mono e f (change.after_sized ∙ sym change.excess_sized) (λ v. part_above_0-mono (number_at f v) (number_at e v) (λ some. not_above v some (change.nearer v)))
   where
     not_above : (v : ℕ) → pos 0 <ℤ number_at f v → IsNearer (number_at e v) (number_at f v) → number_at f v ≤ℤ number_at e v
     not_above v some (inl down) = down.1
     not_above v some (inr up) = absurd (omega (arith, ints, some, up.1))
 
 -- a flow that is not changed leaves the same excess
-excess_kept : {nodes : ℕ} {rows : List ArcRow} {x e y f : List ℤ} {ranks : List ℕ} → IsChange nodes rows x e y f ranks → x ≡ y → e ≡ f
+excess_kept : {nodes : ℕ} {rows : List ArcRow} {x e y f : List ℤ} {ranks : List ℕ} → IsAcyclicChange nodes rows x e y f ranks → x ≡ y → e ≡ f
 excess_kept {nodes} {rows} {x} {e} {y} {f} {ranks} change same =
     same_lists e f (change.excess_sized ∙ sym change.after_sized) (λ v. (let still : net rows x v ≡ net rows y v = ap (λ (z : List ℤ). net rows z v) same in omega (arith, ints, change.excess v, still)))
 
 -- where nothing changes, nothing is pushed
-unchanged : {nodes : ℕ} {rows : List ArcRow} {x e y f : List ℤ} {ranks : List ℕ} → IsChange nodes rows x e y f ranks → x ≡ y → (n : ℕ) → n + left f ≡ left e → ArePushes rows n x e y f
+unchanged : {nodes : ℕ} {rows : List ArcRow} {x e y f : List ℤ} {ranks : List ℕ} → IsAcyclicChange nodes rows x e y f ranks → x ≡ y → (n : ℕ) → n + left f ≡ left e → ArePushes rows n x e y f
 unchanged {nodes} {rows} {x} {e} {y} {f} {ranks} change same n count =
     let kept = excess_kept change same in
     let equal = ap left kept in
@@ -285,14 +285,14 @@ unchanged {nodes} {rows} {x} {e} {y} {f} {ranks} change same n count =
     subst (λ (z : List ℤ). ArePushes rows n x e z f) same (subst (λ (g : List ℤ). ArePushes rows n x e x g) kept (subst (λ (k : ℕ). ArePushes rows k x e x e) none (ArePushes-none rows x e)))
 
 -- what is changed lies on a path of changes
-path_or_none : (nodes : ℕ) (rows : List ArcRow) (x e y f : List ℤ) (ranks : List ℕ) → IsChange nodes rows x e y f ranks → (x ≡ y) ⊎ IsWantedPath nodes rows x e y f
+path_or_none : (nodes : ℕ) (rows : List ArcRow) (x e y f : List ℤ) (ranks : List ℕ) → IsAcyclicChange nodes rows x e y f ranks → (x ≡ y) ⊎ IsWantedPath nodes rows x e y f
 path_or_none nodes rows x e y f ranks change = elim (same_or_differ x y (change.before.same_length ∙ sym change.after.same_length)) [
   | inl same ↦ inl same
   | inr at ↦ inr (wanted_path nodes rows x e y f ranks change at.place (omega (arith, at.in_list, change.before.same_length)) at.differs)
 ]
 
 -- a change that turns in no circle is as many pushes as units are moved
-pub pushes_of_change : (nodes : ℕ) (rows : List ArcRow) (x e y f : List ℤ) (ranks : List ℕ) → IsChange nodes rows x e y f ranks → (n : ℕ) → n + left f ≡ left e → ArePushes rows n x e y f
+pub pushes_of_change : (nodes : ℕ) (rows : List ArcRow) (x e y f : List ℤ) (ranks : List ℕ) → IsAcyclicChange nodes rows x e y f ranks → (n : ℕ) → n + left f ≡ left e → ArePushes rows n x e y f
 pushes_of_change nodes rows x e y f ranks change zero count = elim (path_or_none nodes rows x e y f ranks change) [
   | inl same ↦ unchanged change same 0 count
   | inr path ↦ absurd (omega (arith, count, left_after change path, left_not_more (change_after change path)))

@@ -15,14 +15,14 @@ use Rattle.residual_graph.specs.Walk.{HasCome}
 use Rattle.residual_graph.proofs.RowLemmas.{end_of-in, start_of-in}
 use Rattle.residual_graph.specs.declared.side.Side.{Side}
 use Rattle.residual_graph.specs.declared.side.Side.TheVariants.{Ahead, Behind}
-use Rattle.augmentation.specs.Push.{IsExcess, at_node, positive_part, left}
+use Rattle.augmentation.specs.Push.{IsExcess, only_at, part_above_0, left}
 use Rattle.augmentation.proofs.PushLemmas.{at_same, at_other}
 use Rattle.shortest_paths.specs.declared.predecessor.Predecessor.{Predecessor}
 use Rattle.shortest_paths.specs.Predecessor.{predecessor_at}
 use Rattle.shortest_paths.specs.Search.{IsExhausted, IsReached}
 use Rattle.shortest_paths.proofs.SearchLemmas.{open_or_reached}
 use Rattle.augmentation.specs.Marked.{MarkedView}
-use Rattle.augmentation.specs.Cut.{sum_in, sum_leaving, sum_entering, surplus, shortfall, IsLeastSet, amount, near_at, far_at, far_of, IsFarIn, IsClosed, HoldsRoots, IsSide, IsParted, IsChosenSet, IsGrown, AreMarkedListed, AreNodesIn, AreTaken, HasNoDeficit, lack}
+use Rattle.augmentation.specs.Cut.{sum_in, sum_leaving, sum_entering, surplus, shortfall, IsLeastSet, amount, near_at, far_at, far_of, IsFarIn, IsClosed, HoldsRoots, AreOnSide, IsParted, IsChosenSet, IsGrown, AreMarkedListed, AreNodesIn, AreTaken, HasNoDeficit, lack}
 use Rattle.tracked.specs.Marks.{in_set}
 use Rattle.residual_graph.specs.Side.{IsRoot}
 use Rattle.tracked.specs.Touched.{NameChanges}
@@ -49,22 +49,22 @@ sum_in-zero [] = refl
 sum_in-zero (true ∷ set) = omega (arith, ints, sum_in-zero set)
 sum_in-zero (false ∷ set) = omega (arith, ints, sum_in-zero set)
 
-at_node_zero : (m : ℤ) (v : ℕ) → at_node 0 m (suc v) ≡ pos 0
+at_node_zero : (m : ℤ) (v : ℕ) → only_at 0 m (suc v) ≡ pos 0
 at_node_zero m v = at_other 0 m (suc v) (λ e. omega arith)
 
-at_node_suc : (u : ℕ) (m : ℤ) (v : ℕ) → at_node (suc u) m (suc v) ≡ at_node u m v
+at_node_suc : (u : ℕ) (m : ℤ) (v : ℕ) → only_at (suc u) m (suc v) ≡ only_at u m v
 at_node_suc u m v = elim (cases_eq v u) [
-  | inl same ↦ subst (λ (q : ℕ). at_node (suc u) m (suc q) ≡ at_node u m q) (sym same) (at_same (suc u) m ∙ sym (at_same u m))
+  | inl same ↦ subst (λ (q : ℕ). only_at (suc u) m (suc q) ≡ only_at u m q) (sym same) (at_same (suc u) m ∙ sym (at_same u m))
   | inr ne ↦ at_other (suc u) m (suc v) (λ e. ne (omega arith)) ∙ sym (at_other u m v ne)
 ]
 
 -- what one node adds to the sum over a set
-pub sum_in-node : (set : List Bool) (u : ℕ) (m : ℤ) → sum_in set (at_node u m) ≡ cond (in_set set u) m (pos 0)
+pub sum_in-node : (set : List Bool) (u : ℕ) (m : ℤ) → sum_in set (only_at u m) ≡ cond (in_set set u) m (pos 0)
 sum_in-node [] u m = refl
-sum_in-node (true ∷ set) zero m = omega (arith, ints, at_same 0 m, sum_in-same set (λ v. at_node 0 m (suc v)) (λ v. pos 0) (at_node_zero m), sum_in-zero set)
-sum_in-node (false ∷ set) zero m = omega (arith, ints, sum_in-same set (λ v. at_node 0 m (suc v)) (λ v. pos 0) (at_node_zero m), sum_in-zero set)
-sum_in-node (true ∷ set) (suc u) m = omega (arith, ints, at_other (suc u) m 0 (λ e. omega arith), sum_in-same set (λ v. at_node (suc u) m (suc v)) (at_node u m) (at_node_suc u m), sum_in-node set u m)
-sum_in-node (false ∷ set) (suc u) m = omega (arith, ints, sum_in-same set (λ v. at_node (suc u) m (suc v)) (at_node u m) (at_node_suc u m), sum_in-node set u m)
+sum_in-node (true ∷ set) zero m = omega (arith, ints, at_same 0 m, sum_in-same set (λ v. only_at 0 m (suc v)) (λ v. pos 0) (at_node_zero m), sum_in-zero set)
+sum_in-node (false ∷ set) zero m = omega (arith, ints, sum_in-same set (λ v. only_at 0 m (suc v)) (λ v. pos 0) (at_node_zero m), sum_in-zero set)
+sum_in-node (true ∷ set) (suc u) m = omega (arith, ints, at_other (suc u) m 0 (λ e. omega arith), sum_in-same set (λ v. only_at (suc u) m (suc v)) (only_at u m) (at_node_suc u m), sum_in-node set u m)
+sum_in-node (false ∷ set) (suc u) m = omega (arith, ints, sum_in-same set (λ v. only_at (suc u) m (suc v)) (only_at u m) (at_node_suc u m), sum_in-node set u m)
 
 -- the flow on the arcs whose tail, or whose head, is in a set
 abbrev pub tail_sum : List Bool → List ArcRow → List ℤ → ℤ
@@ -81,13 +81,13 @@ pub sum_in-outflow : (set : List Bool) (arcs : List ArcRow) (x : List ℤ) → s
 sum_in-outflow set [] x = sum_in-zero set
 sum_in-outflow set (a ∷ arcs) [] = sum_in-zero set
 sum_in-outflow set (a ∷ arcs) (y ∷ x) =
-    sum_in-add set (at_node a.tail y) (outflow arcs x) ∙ omega (arith, ints, sum_in-node set a.tail y, sum_in-outflow set arcs x)
+    sum_in-add set (only_at a.tail y) (outflow arcs x) ∙ omega (arith, ints, sum_in-node set a.tail y, sum_in-outflow set arcs x)
 
 pub sum_in-inflow : (set : List Bool) (arcs : List ArcRow) (x : List ℤ) → sum_in set (inflow arcs x) ≡ head_sum set arcs x
 sum_in-inflow set [] x = sum_in-zero set
 sum_in-inflow set (a ∷ arcs) [] = sum_in-zero set
 sum_in-inflow set (a ∷ arcs) (y ∷ x) =
-    sum_in-add set (at_node a.head y) (inflow arcs x) ∙ omega (arith, ints, sum_in-node set a.head y, sum_in-inflow set arcs x)
+    sum_in-add set (only_at a.head y) (inflow arcs x) ∙ omega (arith, ints, sum_in-node set a.head y, sum_in-inflow set arcs x)
 
 pub sum_in-excess : (set : List Bool) (arcs : List ArcRow) (supply : ℕ → ℤ) (x e : List ℤ) → IsExcess arcs supply x e → sum_in set (number_at e) ≡ (sum_in set (supply) -ℤ tail_sum set arcs x) +ℤ head_sum set arcs x
 sum_in-excess set arcs supply x e is =
@@ -163,15 +163,15 @@ flow_slack set (a ∷ arcs) (y ∷ x) (suc k) way sized within residual s e =
       flow_slack set arcs x k way (omega arith) (λ j lt. within (suc j) (omega arith)) (record { is_arc = omega (arith, residual.is_arc); has_room = residual.has_room }) s e,
     )
 
-below_part : (z : ℤ) → z ≤ℤ pos (positive_part z)
+below_part : (z : ℤ) → z ≤ℤ pos (part_above_0 z)
 below_part (pos n) = omega (arith, ints)
 below_part (negsuc n) = omega (arith, ints)
 
-is_part : (z : ℤ) → pos 0 ≤ℤ z → z ≡ pos (positive_part z)
+is_part : (z : ℤ) → pos 0 ≤ℤ z → z ≡ pos (part_above_0 z)
 is_part (pos n) h = refl
 is_part (negsuc n) h = absurd (omega (arith, ints))
 
-no_part : (z : ℤ) → (pos 0 <ℤ z → ⊥) → positive_part z ≡ 0
+no_part : (z : ℤ) → (pos 0 <ℤ z → ⊥) → part_above_0 z ≡ 0
 no_part (pos zero) h = refl
 no_part (pos (suc n)) h = absurd (h (omega (arith, ints)))
 no_part (negsuc n) h = refl
@@ -179,18 +179,18 @@ no_part (negsuc n) h = refl
 pub sum_in-le_left : (set : List Bool) (e : List ℤ) → sum_in set (number_at e) ≤ℤ pos (left e)
 sum_in-le_left [] e = omega (arith, ints)
 sum_in-le_left (b ∷ set) [] = omega (arith, ints, sum_in-zero (b ∷ set))
-sum_in-le_left (true ∷ set) (z ∷ e) = omega (arith, ints, sum_by-cons positive_part z e, below_part z, sum_in-le_left set e)
-sum_in-le_left (false ∷ set) (z ∷ e) = omega (arith, ints, sum_by-cons positive_part z e, sum_in-le_left set e)
+sum_in-le_left (true ∷ set) (z ∷ e) = omega (arith, ints, sum_by-cons part_above_0 z e, below_part z, sum_in-le_left set e)
+sum_in-le_left (false ∷ set) (z ∷ e) = omega (arith, ints, sum_by-cons part_above_0 z e, sum_in-le_left set e)
 
 -- a node in excess outside the set is missing from the sum
 pub sum_in-less : (set : List Bool) (e : List ℤ) (v : ℕ) → pos 0 <ℤ number_at e v → in_set set v ≡ false → sum_in set (number_at e) <ℤ pos (left e)
 sum_in-less set [] v high out = absurd (omega (arith, ints, high))
-sum_in-less [] (z ∷ e) zero high out = omega (arith, ints, sum_by-cons positive_part z e, below_part z, high)
-sum_in-less [] (z ∷ e) (suc v) high out = omega (arith, ints, sum_by-cons positive_part z e, sum_in-less [] e v high refl)
+sum_in-less [] (z ∷ e) zero high out = omega (arith, ints, sum_by-cons part_above_0 z e, below_part z, high)
+sum_in-less [] (z ∷ e) (suc v) high out = omega (arith, ints, sum_by-cons part_above_0 z e, sum_in-less [] e v high refl)
 sum_in-less (true ∷ set) (z ∷ e) zero high out = absurd (true≢false out)
-sum_in-less (false ∷ set) (z ∷ e) zero high out = omega (arith, ints, sum_by-cons positive_part z e, below_part z, high, sum_in-le_left set e)
-sum_in-less (true ∷ set) (z ∷ e) (suc v) high out = omega (arith, ints, sum_by-cons positive_part z e, below_part z, sum_in-less set e v high out)
-sum_in-less (false ∷ set) (z ∷ e) (suc v) high out = omega (arith, ints, sum_by-cons positive_part z e, sum_in-less set e v high out)
+sum_in-less (false ∷ set) (z ∷ e) zero high out = omega (arith, ints, sum_by-cons part_above_0 z e, below_part z, high, sum_in-le_left set e)
+sum_in-less (true ∷ set) (z ∷ e) (suc v) high out = omega (arith, ints, sum_by-cons part_above_0 z e, below_part z, sum_in-less set e v high out)
+sum_in-less (false ∷ set) (z ∷ e) (suc v) high out = omega (arith, ints, sum_by-cons part_above_0 z e, sum_in-less set e v high out)
 
 -- a set of no deficit that holds each node in excess holds all the excess
 pub sum_in-all : (set : List Bool) (e : List ℤ) → length set ≡ length e → ((v : ℕ) → pos 0 <ℤ number_at e v → in_set set v ≡ true) → ((v : ℕ) → in_set set v ≡ true → pos 0 ≤ℤ number_at e v) → sum_in set (number_at e) ≡ pos (left e)
@@ -198,9 +198,9 @@ sum_in-all [] [] sized holds none = refl
 sum_in-all [] (z ∷ e) sized holds none = absurd (omega arith)
 sum_in-all (b ∷ set) [] sized holds none = absurd (omega arith)
 sum_in-all (true ∷ set) (z ∷ e) sized holds none =
-    omega (arith, ints, sum_by-cons positive_part z e, is_part z (none 0 refl), sum_in-all set e (omega arith) (λ v. holds (suc v)) (λ v. none (suc v)))
+    omega (arith, ints, sum_by-cons part_above_0 z e, is_part z (none 0 refl), sum_in-all set e (omega arith) (λ v. holds (suc v)) (λ v. none (suc v)))
 sum_in-all (false ∷ set) (z ∷ e) sized holds none =
-    omega (arith, ints, sum_by-cons positive_part z e, no_part z (λ high. false≢true (holds 0 high)), sum_in-all set e (omega arith) (λ v. holds (suc v)) (λ v. none (suc v)))
+    omega (arith, ints, sum_by-cons part_above_0 z e, no_part z (λ high. false≢true (holds 0 high)), sum_in-all set e (omega arith) (λ v. holds (suc v)) (λ v. none (suc v)))
 
 module _ (arcs : List ArcRow) (supply : ℕ → ℤ) (x e : List ℤ) (set : List Bool)
     (is : IsExcess arcs supply x e) (sized : length x ≡ length arcs) (within : (k : ℕ) → k < length arcs → IsWithinRow (row_at arcs k) (number_at x k))
@@ -227,7 +227,7 @@ module _ (arcs : List ArcRow) (supply : ℕ → ℤ) (x e : List ℤ) (set : Lis
     }
 
 -- the nodes that those in excess reach, where none of them is in deficit
-ahead_is_least : (arcs : List ArcRow) (supply : ℕ → ℤ) (x e : List ℤ) (set : List Bool) → IsExcess arcs supply x e → length x ≡ length arcs → ((k : ℕ) → k < length arcs → IsWithinRow (row_at arcs k) (number_at x k)) → length set ≡ length e → IsSide Ahead arcs x e set → IsParted arcs x e → IsLeastSet (surplus arcs supply) set (pos (left e))
+ahead_is_least : (arcs : List ArcRow) (supply : ℕ → ℤ) (x e : List ℤ) (set : List Bool) → IsExcess arcs supply x e → length x ≡ length arcs → ((k : ℕ) → k < length arcs → IsWithinRow (row_at arcs k) (number_at x k)) → length set ≡ length e → AreOnSide Ahead arcs x e set → IsParted arcs x e → IsLeastSet (surplus arcs supply) set (pos (left e))
 ahead_is_least arcs supply x e set is sized within sized_set ahead parted =
     is_least_cut arcs supply x e set is sized within sized_set ahead.closed ahead.holds (λ v h. parted.no_deficit v (ahead.least parted.set parted.closed parted.holds v h)) ahead.least
 
@@ -267,7 +267,7 @@ closed-unturned arcs x set closed k way residual end =
     sym (ap (in_set set) (end_at-turned arcs k way)) ∙ closed k way (residual-turned arcs x k way residual) (ap (in_set set) (start_at-turned arcs k way) ∙ end)
 
 -- the nodes that reach a node in deficit, where no node is in excess
-behind_is_least : (arcs : List ArcRow) (supply : ℕ → ℤ) (x e : List ℤ) (set : List Bool) → IsExcess arcs supply x e → length x ≡ length arcs → ((k : ℕ) → k < length arcs → IsWithinRow (row_at arcs k) (number_at x k)) → length set ≡ length e → IsSide Behind arcs x e set → ((v : ℕ) → number_at e v ≤ℤ pos 0) → IsLeastSet (shortfall arcs supply) set (pos (lack e))
+behind_is_least : (arcs : List ArcRow) (supply : ℕ → ℤ) (x e : List ℤ) (set : List Bool) → IsExcess arcs supply x e → length x ≡ length arcs → ((k : ℕ) → k < length arcs → IsWithinRow (row_at arcs k) (number_at x k)) → length set ≡ length e → AreOnSide Behind arcs x e set → ((v : ℕ) → number_at e v ≤ℤ pos 0) → IsLeastSet (shortfall arcs supply) set (pos (lack e))
 behind_is_least arcs supply x e set is sized within sized_set behind none =
     let there = is_least_cut (map turned_row arcs) (λ v. neg_ℤ (supply v)) x (map neg_ℤ e) set
     (λ v. number_at-neg e v ∙ omega (arith, ints, is v, outflow-turned arcs x v, inflow-turned arcs x v))
@@ -290,13 +290,13 @@ behind_is_least arcs supply x e set is sized within sized_set behind none =
 -- where nothing lies in excess, no number is above 0
 pub none_above : (e : List ℤ) → left e ≡ 0 → (v : ℕ) → number_at e v ≤ℤ pos 0
 none_above [] h v = omega (arith, ints)
-none_above (pos n ∷ e) h zero = omega (arith, ints, sum_by-cons positive_part (pos n) e)
+none_above (pos n ∷ e) h zero = omega (arith, ints, sum_by-cons part_above_0 (pos n) e)
 none_above (negsuc n ∷ e) h zero = omega (arith, ints)
-none_above (z ∷ e) h (suc v) = none_above e (omega (arith, sum_by-cons positive_part z e)) v
+none_above (z ∷ e) h (suc v) = none_above e (omega (arith, sum_by-cons part_above_0 z e)) v
 
 left-none : (e : List ℤ) → ((v : ℕ) → v < length e → number_at e v ≤ℤ pos 0) → left e ≡ 0
 left-none [] h = refl
-left-none (z ∷ e) h = omega (arith, sum_by-cons positive_part z e, no_part z (λ high. omega (arith, ints, high, h 0 (omega arith))), left-none e (λ v lt. h (suc v) (omega arith)))
+left-none (z ∷ e) h = omega (arith, sum_by-cons part_above_0 z e, no_part z (λ high. omega (arith, ints, high, h 0 (omega arith))), left-none e (λ v lt. h (suc v) (omega arith)))
 
 pub lack-none : (e : List ℤ) → lack e ≡ 0 → (v : ℕ) → pos 0 ≤ℤ number_at e v
 lack-none e h v = omega (arith, ints, none_above (map neg_ℤ e) (left-neg e ∙ h) v, number_at-neg e v)
@@ -311,7 +311,7 @@ in_none zero v = refl
 in_none (suc n) zero = refl
 in_none (suc n) (suc v) = in_none n v
 
-pub IsChosenSet-from : (arcs : List ArcRow) (x e : List ℤ) (supply : ℕ → ℤ) (set : List Bool) (nodes : ℕ) → IsPseudoflow nodes arcs x → length set ≡ length e → IsParted arcs x e → (0 < left e → IsSide Ahead arcs x e set) → (left e ≡ 0 → IsSide Behind arcs x e set) → IsExcess arcs supply x e → IsChosenSet arcs supply e set
+pub IsChosenSet-from : (arcs : List ArcRow) (x e : List ℤ) (supply : ℕ → ℤ) (set : List Bool) (nodes : ℕ) → IsPseudoflow nodes arcs x → length set ≡ length e → IsParted arcs x e → (0 < left e → AreOnSide Ahead arcs x e set) → (left e ≡ 0 → AreOnSide Behind arcs x e set) → IsExcess arcs supply x e → IsChosenSet arcs supply e set
 IsChosenSet-from arcs x e supply set nodes flow sized_set parted ahead behind is = record {
   in_excess = λ some. ahead_is_least arcs supply x e set is flow.same_length flow.within sized_set (ahead some) parted;
   in_deficit = λ none some. behind_is_least arcs supply x e set is flow.same_length flow.within sized_set (behind none) (none_above e none);

@@ -12,22 +12,22 @@ use Rattle.augmentation.specs.Changes.{AreNearer, IsExcessAfter, IsNearer, Rises
 use Rattle.tracked.specs.Marks.{in_set}
 use Rattle.augmentation.specs.Exchange.{IsJournalFor, IsLed, RisesBetween}
 use Rattle.tracked.specs.Journal.{IsJournal, IsSince}
-use Rattle.augmentation.specs.Push.{AreSmall, IsTransfer, at_node, left, positive_part}
+use Rattle.augmentation.specs.Push.{AreSmall, IsTransfer, only_at, left, part_above_0}
 use Rattle.tracked.specs.declared.journal.Journal.{Journal}
-use Rattle.augmentation.proofs.PushLemmas.{at_node-sub, at_other, at_same, flow_in-set, flow_out-set}
+use Rattle.augmentation.proofs.PushLemmas.{only_at-sub, at_other, at_same, flow_in-set, flow_out-set}
 use Rattle.tracked.specs.NodeLists.{node_at}
 use Rattle.tracked.proofs.TouchedLemmas.{noted_or_not}
 use Rattle.tracked.proofs.TrackedLemmas.{AreLeft, AreLeft-all, AreLeft-more, AreLeft-start}
 
 -- a table in which d more stands at node u
-put_more : (e : List ℤ) (u : ℕ) (a d : ℤ) → u < length e → a ≡ number_at e u +ℤ d → (v : ℕ) → number_at (slice_set e u a) v ≡ number_at e v +ℤ at_node u d v
+put_more : (e : List ℤ) (u : ℕ) (a d : ℤ) → u < length e → a ≡ number_at e u +ℤ d → (v : ℕ) → number_at (slice_set e u a) v ≡ number_at e v +ℤ only_at u d v
 put_more e u a d u_in is v = elim (cases_eq v u) [
-  | inl same ↦ subst (λ (q : ℕ). number_at (slice_set e u a) q ≡ number_at e q +ℤ at_node u d q) (sym same) (get_or-set_same e u a (pos 0) u_in ∙ omega (arith, ints, is, at_same u d))
+  | inl same ↦ subst (λ (q : ℕ). number_at (slice_set e u a) q ≡ number_at e q +ℤ only_at u d q) (sym same) (get_or-set_same e u a (pos 0) u_in ∙ omega (arith, ints, is, at_same u d))
   | inr other ↦ get_or-set_other e u v a (pos 0) other ∙ omega (arith, ints, at_other u d v other)
 ]
 
-at_node-neg : (u v : ℕ) (m : ℤ) → at_node u (neg_ℤ m) v ≡ neg_ℤ (at_node u m v)
-at_node-neg u v m = by_test (eqb u v)
+only_at-neg : (u v : ℕ) (m : ℤ) → only_at u (neg_ℤ m) v ≡ neg_ℤ (only_at u m v)
+only_at-neg u v m = by_test (eqb u v)
   where
     by_test : (t : Bool) → cond t (neg_ℤ m) (pos 0) ≡ neg_ℤ (cond t m (pos 0))
     by_test true = refl
@@ -42,7 +42,7 @@ transfer_put u w m e f g a b u_in w_in f_is a_is g_is b_is =
       by_node = λ v. omega (
         arith,
         ints,
-        at_node-neg u v m,
+        only_at-neg u v m,
         ap (λ (h : List ℤ). number_at h v) f_is,
         put_more e u a (neg_ℤ m) u_in (omega (arith, ints, a_is)) v,
         ap (λ (h : List ℤ). number_at h v) g_is,
@@ -58,7 +58,7 @@ after-more rows x e y f z g one two = λ v. omega (arith, ints, one v, two v)
 
 -- arc k carries another flow, and what it carries more has gone from its tail to its head
 pub after-set : (rows : List ArcRow) (x e f : List ℤ) (k : ℕ) (z : ℤ) → k < length rows → length x ≡ length rows → IsTransfer (row_at rows k).tail (row_at rows k).head (z -ℤ number_at x k) e f → IsExcessAfter rows x e (slice_set x k z) f
-after-set rows x e f k z lt sized transfer = λ v. omega (arith, ints, transfer.by_node v, flow_out-set rows x k z v lt sized, flow_in-set rows x k z v lt sized, at_node-sub (row_at rows k).tail v z (number_at x k), at_node-sub (row_at rows k).head v z (number_at x k))
+after-set rows x e f k z lt sized transfer = λ v. omega (arith, ints, transfer.by_node v, flow_out-set rows x k z v lt sized, flow_in-set rows x k z v lt sized, only_at-sub (row_at rows k).tail v z (number_at x k), only_at-sub (row_at rows k).head v z (number_at x k))
 
 -- where each change that the journal notes leads to a node of higher rank, all changes do
 pub rises_noted : (rows : List ArcRow) (j : Journal) (x y : List ℤ) (ranks : List ℕ) → IsSince j x y → ((k : ℕ) → k < length rows → in_set j.written k ≡ true → RisesBetween (row_at rows k) (number_at j.before.items k) (number_at y k) ranks) → Rises rows x y ranks
@@ -124,13 +124,13 @@ AreGiven-none j before now nodes listed is = record {
 }
 
 pub AreGiven-more : (nodes : List ℕ) (j : ℕ) (before now : List ℤ) (n m : ℕ) → AllPairs ◌≢◌ nodes → j < length nodes → node_at nodes j < length now → IsNearer (number_at before (node_at nodes j)) (number_at now (node_at nodes j))
-    → m + positive_part (number_at now (node_at nodes j)) ≡ positive_part (number_at before (node_at nodes j)) → AreGiven nodes j before now n → AreGiven nodes (j + 1) before now (n + m)
+    → m + part_above_0 (number_at now (node_at nodes j)) ≡ part_above_0 (number_at before (node_at nodes j)) → AreGiven nodes j before now n → AreGiven nodes (j + 1) before now (n + m)
 AreGiven-more nodes j before now n m apart j_in there nearer gave are =
     let p = node_at nodes j in
     let z = number_at now p in
     let p_in : p < length are.table = omega (arith, there, are.rest.same_length) in
-    let kept = ap positive_part (are.not_yet j (omega arith) j_in) in
-    let put = sum_by-set positive_part are.table p z (pos 0) p_in in
+    let kept = ap part_above_0 (are.not_yet j (omega arith) j_in) in
+    let put = sum_by-set part_above_0 are.table p z (pos 0) p_in in
     record {
       table = slice_set are.table p z;
       rest = AreLeft-more nodes j are.table now z are.rest p_in (get_or_default now p (pos 0) z there);

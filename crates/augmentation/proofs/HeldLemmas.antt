@@ -17,7 +17,7 @@ use Rattle.tracked.specs.Touched.{NameChanges}
 use Rattle.shortest_paths.specs.Predecessor.{ComesAlong, IsTracedAt, arc_to, predecessor_at, rank_at, reduced_by, way_to}
 use Rattle.augmentation.specs.Certificate.{AreInRange, KeepsRow}
 use Rattle.tracked.specs.Marks.{in_set}
-use Rattle.augmentation.specs.Held.{AreTested, AreMarkedChanges, AreNotedChanges, AreTestedThere, HoldsAlong, HoldsAt, IsHeld, IsHeldIn, IsInRange}
+use Rattle.augmentation.specs.Held.{AreTested, AreMarkedChanges, AreNotedChanges, AreTestedThere, HoldsAlong, HoldsAt, AreHeld, IsHeldIn, IsInLabelRange}
 use Rattle.augmentation.specs.Settle.{AreShortest}
 use Rattle.augmentation.proofs.CertificateLemmas.{none_of, rows_of, within_potentials}
 use Rattle.shortest_paths.proofs.LabelLemmas.{greatest_of}
@@ -71,7 +71,7 @@ comes_still a x y p q s t v flow same label start before comes =
 
 module _ (nodes : ℕ) (rows : List ArcRow) (w x p q : List ℤ) (s t : List Predecessor) (noted beside written relabelled rehung : List Bool)
     (is_flow : IsPseudoflow nodes rows x) (sized : length q ≡ nodes)
-    (held : IsHeld rows w p s noted beside) (moved : AreMarkedChanges rows w x p q s t written relabelled rehung) (in_range : AreInRange q) (tested : AreTestedThere rows x q t noted beside written rehung) where
+    (held : AreHeld rows w p s noted beside) (moved : AreMarkedChanges rows w x p q s t written relabelled rehung) (in_range : AreInRange q) (tested : AreTestedThere rows x q t noted beside written rehung) where
   start_in : (k : ℕ) (way : Way) → k < length rows → start_at rows k way < length q
   start_in k way lt = (let r = start_of-in nodes (row_at rows k) way (is_flow.rows k lt) in omega (arith, r, sized))
 
@@ -136,14 +136,14 @@ module _ (nodes : ℕ) (rows : List ArcRow) (w x p q : List ℤ) (s t : List Pre
   tested_whole = record { certifying = (in_range, none_of rows x q keeps); traced = traced }
 
 -- labels that were in range are so, where those are that changed
-pub in_range_still : (p q : List ℤ) (relabelled : List Bool) → AreInRange p → ((v : ℕ) → in_set relabelled v ≡ false → number_at q v ≡ number_at p v) → ((v : ℕ) → v < length q → in_set relabelled v ≡ true → IsInRange (number_at q v)) → AreInRange q
+pub in_range_still : (p q : List ℤ) (relabelled : List Bool) → AreInRange p → ((v : ℕ) → in_set relabelled v ≡ false → number_at q v ≡ number_at p v) → ((v : ℕ) → v < length q → in_set relabelled v ≡ true → IsInLabelRange (number_at q v)) → AreInRange q
 in_range_still p q relabelled before same inside = record {
   sized = refl;
   at_most_0 = λ v. (each v).1;
   at_least = λ v. (each v).0;
 }
   where
-    each : (v : ℕ) → IsInRange (number_at q v)
+    each : (v : ℕ) → IsInLabelRange (number_at q v)
     each v = elim (cases_lt v (length q)) [
       | inr past ↦ (let none = get_or_past q v (pos 0) past in (omega (arith, ints, none), omega (arith, ints, none)))
       | inl lt ↦ elim (noted_or_not relabelled v) [
@@ -172,7 +172,7 @@ IsNoted rows noted beside k = (in_set noted k ≡ true) × ((way : Way) → in_s
 
 -- what is tested under the flow x is held under another one, where the arcs on which these differ are noted
 pub held_accepted : (rows : List ArcRow) (w x q : List ℤ) (t : List Predecessor) (noted beside : List Bool) → AreTested rows x q t
-    → ((k : ℕ) → k < length rows → IsNoted rows noted beside k ⊎ (number_at w k ≡ number_at x k)) → IsHeld rows w q t noted beside
+    → ((k : ℕ) → k < length rows → IsNoted rows noted beside k ⊎ (number_at w k ≡ number_at x k)) → AreHeld rows w q t noted beside
 held_accepted rows w x q t noted beside tested differ = record {
   in_range = tested.certifying.0;
   arcs = λ k lt out. elim (differ k lt) [
@@ -195,8 +195,8 @@ not_noted noted noted' k still out = elim (noted_or_not noted k) [
 ]
 
 -- what is held is so still once rows and flow changed at noted arcs alone
-pub held_after : (rows : List ArcRow) (w : List ℤ) (rows' : List ArcRow) (w' q : List ℤ) (t : List Predecessor) (noted beside noted' beside' : List Bool) → IsHeld rows w q t noted beside
-    → AreNotedChanges rows w noted beside rows' w' noted' beside' → IsHeld rows' w' q t noted' beside'
+pub held_after : (rows : List ArcRow) (w : List ℤ) (rows' : List ArcRow) (w' q : List ℤ) (t : List Predecessor) (noted beside noted' beside' : List Bool) → AreHeld rows w q t noted beside
+    → AreNotedChanges rows w noted beside rows' w' noted' beside' → AreHeld rows' w' q t noted' beside'
 held_after rows w rows' w' q t noted beside noted' beside' held change = record {
   in_range = held.in_range;
   arcs = λ k lt out. elim (change.arcs k lt) [
@@ -223,8 +223,8 @@ noted_arc rows h k is = (is.arc, ends)
 -- what was tested and accepted is held, under the flow from which this one differs at named arcs
 pub held_by : (rows : List ArcRow) (w x q : List ℤ) (t : List Predecessor) (places : List ℕ) (h : HeldView) → length rows ≤ length w → h.labels ≡ q → h.predecessors ≡ t → NameChanges 0 places w x → AreArcsNoted rows places h → AreTested rows x q t → IsHeldIn rows w h
 held_by rows w x q t places h fits labels predecessors named noted tested = λ found.
-    subst (λ (p : List ℤ). IsHeld rows w p h.predecessors h.noted h.beside) (sym labels)
-    (subst (λ (s : List Predecessor). IsHeld rows w q s h.noted h.beside) (sym predecessors)
+    subst (λ (p : List ℤ). AreHeld rows w p h.predecessors h.noted h.beside) (sym labels)
+    (subst (λ (s : List Predecessor). AreHeld rows w q s h.noted h.beside) (sym predecessors)
     (held_accepted rows w x q t h.noted h.beside tested (λ k lt. elim (named k (omega (arith, lt, fits))) [
       | inl there ↦ inl (noted_arc rows h k (noted found k lt (subst (λ (j : ℕ). Any (λ p. p ≡ j) places) (omega arith) there)))
       | inr same ↦ inr (sym (same (pos 0)))

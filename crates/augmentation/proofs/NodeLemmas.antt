@@ -6,7 +6,7 @@ use Rattle.std.proofs.lemmas.Bool.{cases_lt}
 use Rattle.std.proofs.lemmas.List.{get_or_past}
 use Rattle.dimacs_text.specs.declared.problem.ArcRow.{ArcRow}
 use Rattle.network.specs.Flow.{nodes_sum, net, outflow, inflow}
-use Rattle.augmentation.specs.Push.{at_node}
+use Rattle.augmentation.specs.Push.{only_at}
 use Rattle.augmentation.specs.Cut.{sum_in}
 use Rattle.tracked.specs.Marks.{in_set}
 use Rattle.augmentation.specs.Nodes.{table, held}
@@ -46,8 +46,8 @@ out_of_none n [] x v ends none = (refl, refl)
 out_of_none n (a ∷ arcs) [] v ends none = (refl, refl)
 out_of_none n (a ∷ arcs) (y ∷ x) v ends none =
     let rest = out_of_none n arcs x v ends.1 none in
-    let tail : at_node a.tail y v ≡ pos 0 = at_other a.tail y v (λ e. none (subst (IsNodeOf n) (sym e) ends.0.0)) in
-    let head : at_node a.head y v ≡ pos 0 = at_other a.head y v (λ e. none (subst (IsNodeOf n) (sym e) ends.0.1)) in
+    let tail : only_at a.tail y v ≡ pos 0 = at_other a.tail y v (λ e. none (subst (IsNodeOf n) (sym e) ends.0.0)) in
+    let head : only_at a.head y v ≡ pos 0 = at_other a.head y v (λ e. none (subst (IsNodeOf n) (sym e) ends.0.1)) in
     (omega (arith, ints, rest.0, tail), omega (arith, ints, rest.1, head))
 
 pub net-none : (n : ℕ) (arcs : List ArcRow) (x : List ℤ) (v : ℕ) → AllEndsIn n arcs → (IsNodeOf n v → ⊥) → net arcs x v ≡ pos 0

@@ -11,7 +11,7 @@ use Rattle.residual_graph.specs.declared.residual.Way.{Way}
 use Rattle.residual_graph.specs.declared.residual.Way.TheVariants.{Forward, Backward}
 use Rattle.residual_graph.specs.Residual.{IsRow, IsWithinRow, IsPseudoflow, NoneBelow, number_at, row_at, room_of, start_at, end_at, cost_at}
 use Rattle.network.specs.Flow.{net, outflow, inflow}
-use Rattle.augmentation.specs.Push.{IsPath, moved, IsShift, HasRoom, push_along, IsTight, at_node, IsTransfer}
+use Rattle.augmentation.specs.Push.{IsPath, moved, IsShift, HasRoom, push_along, IsTight, only_at, IsTransfer}
 use Rattle.residual_graph.specs.declared.residual.ResidualArc.{ResidualArc}
 
 -- no hop is along arc k
@@ -121,64 +121,64 @@ NoneBelow-along arcs q [] m x none tight = none
 NoneBelow-along arcs q (h ∷ hops) m x none tight =
     NoneBelow-along arcs q hops m (slice_set x h.arc (moved h.way (number_at x h.arc) m)) (NoneBelow-set arcs x q h.arc h.way (moved h.way (number_at x h.arc) m) none tight.0) tight.1
 
-pub flow_out-set : (arcs : List ArcRow) (x : List ℤ) (k : ℕ) (z : ℤ) (v : ℕ) → k < length arcs → length x ≡ length arcs → (outflow arcs (slice_set x k z) v +ℤ at_node (row_at arcs k).tail (number_at x k) v) ≡ (outflow arcs x v +ℤ at_node (row_at arcs k).tail z v)
+pub flow_out-set : (arcs : List ArcRow) (x : List ℤ) (k : ℕ) (z : ℤ) (v : ℕ) → k < length arcs → length x ≡ length arcs → (outflow arcs (slice_set x k z) v +ℤ only_at (row_at arcs k).tail (number_at x k) v) ≡ (outflow arcs x v +ℤ only_at (row_at arcs k).tail z v)
 flow_out-set [] x k z v lt sized = absurd (omega arith)
 flow_out-set (a ∷ arcs) [] k z v lt sized = absurd (omega arith)
 flow_out-set (a ∷ arcs) (y ∷ x) zero z v lt sized = omega (arith, ints)
 flow_out-set (a ∷ arcs) (y ∷ x) (suc k) z v lt sized = omega (arith, ints, flow_out-set arcs x k z v (omega arith) (omega arith))
 
-pub flow_in-set : (arcs : List ArcRow) (x : List ℤ) (k : ℕ) (z : ℤ) (v : ℕ) → k < length arcs → length x ≡ length arcs → (inflow arcs (slice_set x k z) v +ℤ at_node (row_at arcs k).head (number_at x k) v) ≡ (inflow arcs x v +ℤ at_node (row_at arcs k).head z v)
+pub flow_in-set : (arcs : List ArcRow) (x : List ℤ) (k : ℕ) (z : ℤ) (v : ℕ) → k < length arcs → length x ≡ length arcs → (inflow arcs (slice_set x k z) v +ℤ only_at (row_at arcs k).head (number_at x k) v) ≡ (inflow arcs x v +ℤ only_at (row_at arcs k).head z v)
 flow_in-set [] x k z v lt sized = absurd (omega arith)
 flow_in-set (a ∷ arcs) [] k z v lt sized = absurd (omega arith)
 flow_in-set (a ∷ arcs) (y ∷ x) zero z v lt sized = omega (arith, ints)
 flow_in-set (a ∷ arcs) (y ∷ x) (suc k) z v lt sized = omega (arith, ints, flow_in-set arcs x k z v (omega arith) (omega arith))
 
-at_node-add : (u v : ℕ) (a b : ℤ) → at_node u (a +ℤ b) v ≡ at_node u a v +ℤ at_node u b v
-at_node-add u v a b = by_test (eqb u v)
+only_at-add : (u v : ℕ) (a b : ℤ) → only_at u (a +ℤ b) v ≡ only_at u a v +ℤ only_at u b v
+only_at-add u v a b = by_test (eqb u v)
   where
     by_test : (t : Bool) → cond t (a +ℤ b) (pos 0) ≡ cond t a (pos 0) +ℤ cond t b (pos 0)
     by_test true = refl
     by_test false = refl
 
-pub at_node-sub : (u v : ℕ) (a b : ℤ) → at_node u (a -ℤ b) v ≡ at_node u a v -ℤ at_node u b v
-at_node-sub u v a b = by_test (eqb u v)
+pub only_at-sub : (u v : ℕ) (a b : ℤ) → only_at u (a -ℤ b) v ≡ only_at u a v -ℤ only_at u b v
+only_at-sub u v a b = by_test (eqb u v)
   where
     by_test : (t : Bool) → cond t (a -ℤ b) (pos 0) ≡ cond t a (pos 0) -ℤ cond t b (pos 0)
     by_test true = refl
     by_test false = refl
 
-net-moved : (arcs : List ArcRow) (x : List ℤ) (k : ℕ) (way : Way) (m : ℤ) (v : ℕ) → k < length arcs → length x ≡ length arcs → net arcs (slice_set x k (moved way (number_at x k) m)) v ≡ (net arcs x v +ℤ at_node (start_at arcs k way) m v) -ℤ at_node (end_at arcs k way) m v
+net-moved : (arcs : List ArcRow) (x : List ℤ) (k : ℕ) (way : Way) (m : ℤ) (v : ℕ) → k < length arcs → length x ≡ length arcs → net arcs (slice_set x k (moved way (number_at x k) m)) v ≡ (net arcs x v +ℤ only_at (start_at arcs k way) m v) -ℤ only_at (end_at arcs k way) m v
 net-moved arcs x k Forward m v lt sized =
-    omega (arith, ints, flow_out-set arcs x k (number_at x k +ℤ m) v lt sized, flow_in-set arcs x k (number_at x k +ℤ m) v lt sized, at_node-add (row_at arcs k).tail v (number_at x k) m, at_node-add (row_at arcs k).head v (number_at x k) m)
+    omega (arith, ints, flow_out-set arcs x k (number_at x k +ℤ m) v lt sized, flow_in-set arcs x k (number_at x k +ℤ m) v lt sized, only_at-add (row_at arcs k).tail v (number_at x k) m, only_at-add (row_at arcs k).head v (number_at x k) m)
 net-moved arcs x k Backward m v lt sized =
-    omega (arith, ints, flow_out-set arcs x k (number_at x k -ℤ m) v lt sized, flow_in-set arcs x k (number_at x k -ℤ m) v lt sized, at_node-sub (row_at arcs k).tail v (number_at x k) m, at_node-sub (row_at arcs k).head v (number_at x k) m)
+    omega (arith, ints, flow_out-set arcs x k (number_at x k -ℤ m) v lt sized, flow_in-set arcs x k (number_at x k -ℤ m) v lt sized, only_at-sub (row_at arcs k).tail v (number_at x k) m, only_at-sub (row_at arcs k).head v (number_at x k) m)
 
 -- a push changes the net flow at the two ends of its path alone
-pub net-along : (arcs : List ArcRow) (hops : List ResidualArc) (m : ℤ) (x : List ℤ) (u w v : ℕ) → IsPath arcs hops u w → AreApart arcs hops → length x ≡ length arcs → net arcs (push_along hops m x) v ≡ (net arcs x v +ℤ at_node u m v) -ℤ at_node w m v
+pub net-along : (arcs : List ArcRow) (hops : List ResidualArc) (m : ℤ) (x : List ℤ) (u w v : ℕ) → IsPath arcs hops u w → AreApart arcs hops → length x ≡ length arcs → net arcs (push_along hops m x) v ≡ (net arcs x v +ℤ only_at u m v) -ℤ only_at w m v
 net-along arcs [] m x u w v path apart sized =
-    let same : at_node u m v ≡ at_node w m v = ap (λ (n : ℕ). at_node n m v) path in
+    let same : only_at u m v ≡ only_at w m v = ap (λ (n : ℕ). only_at n m v) path in
     omega (arith, ints, same)
 net-along arcs (h ∷ hops) m x u w v path apart sized =
     let z = moved h.way (number_at x h.arc) m in
     let rest = net-along arcs hops m (slice_set x h.arc z) (end_at arcs h.arc h.way) w v path.1 apart.2 (length-set x h.arc z ∙ sized) in
     let here = net-moved arcs x h.arc h.way m v apart.0 sized in
-    let same : at_node (start_at arcs h.arc h.way) m v ≡ at_node u m v = ap (λ (n : ℕ). at_node n m v) path.0 in
+    let same : only_at (start_at arcs h.arc h.way) m v ≡ only_at u m v = ap (λ (n : ℕ). only_at n m v) path.0 in
     omega (arith, ints, rest, here, same)
 
-pub at_same : (u : ℕ) (m : ℤ) → at_node u m u ≡ m
+pub at_same : (u : ℕ) (m : ℤ) → only_at u m u ≡ m
 at_same u m = ap (λ (t : Bool). cond t m (pos 0)) (eq-eqb u u refl)
 
-pub at_other : (u : ℕ) (m : ℤ) (v : ℕ) → (v ≡ u → ⊥) → at_node u m v ≡ pos 0
+pub at_other : (u : ℕ) (m : ℤ) (v : ℕ) → (v ≡ u → ⊥) → only_at u m v ≡ pos 0
 at_other u m v ne = ap (λ (t : Bool). cond t m (pos 0)) (ne_eqb u v (λ e. ne (sym e)))
 
 pub IsTransfer-put : (u w : ℕ) (m : ℤ) (e : List ℤ) (a b : ℤ) → u < length e → w < length e → (u ≡ w → ⊥) → a ≡ number_at e u -ℤ m → b ≡ number_at (slice_set e u a) w +ℤ m → IsTransfer u w m e (slice_set (slice_set e u a) w b)
 IsTransfer-put u w m e a b u_in w_in apart a_is b_is = record {
   same_length = length-set (slice_set e u a) w b ∙ length-set e u a;
   by_node = λ v. (elim (cases_eq v w) [
-    | inl same ↦ subst (λ (q : ℕ). number_at (slice_set (slice_set e u a) w b) q ≡ (number_at e q -ℤ at_node u m q) +ℤ at_node w m q) (sym same)
+    | inl same ↦ subst (λ (q : ℕ). number_at (slice_set (slice_set e u a) w b) q ≡ (number_at e q -ℤ only_at u m q) +ℤ only_at w m q) (sym same)
         (get_or-set_same (slice_set e u a) w b (pos 0) (omega (arith, length-set e u a, w_in)) ∙ (let kept : number_at (slice_set e u a) w ≡ number_at e w = get_or-set_other e u w a (pos 0) (λ h. apart (sym h)) in omega (arith, ints, kept, b_is, at_same w m, at_other u m w (λ h. apart (sym h)))))
     | inr not_w ↦ get_or-set_other (slice_set e u a) w v b (pos 0) not_w ∙ (elim (cases_eq v u) [
-      | inl same ↦ subst (λ (q : ℕ). number_at (slice_set e u a) q ≡ (number_at e q -ℤ at_node u m q) +ℤ at_node w m q) (sym same)
+      | inl same ↦ subst (λ (q : ℕ). number_at (slice_set e u a) q ≡ (number_at e q -ℤ only_at u m q) +ℤ only_at w m q) (sym same)
           (get_or-set_same e u a (pos 0) u_in ∙ omega (arith, ints, a_is, at_same u m, at_other w m u apart))
       | inr not_u ↦ get_or-set_other e u v a (pos 0) not_u ∙ omega (arith, ints, at_other u m v not_u, at_other w m v not_w)
     ])

@@ -16,52 +16,52 @@ use Rattle.shortest_paths.specs.Predecessor.{rank_at}
 use Rattle.shortest_paths.specs.Search.{HasFound, IsForest, IsReached}
 use Rattle.shortest_paths.proofs.StepLemmas.{forest_of}
 use Rattle.network.specs.Flow.{net}
-use Rattle.augmentation.specs.Push.{IsExcess, IsPath, IsPush, Pushes, nodes_on, before, hop_to, path_to, root_to, HasRoom, IsTight, IsTightArc, IsTransfer, IsAugmented, ArePushes, push_along, at_node, AreSmall, one_if, positive_part, left, lack}
+use Rattle.augmentation.specs.Push.{IsExcess, IsPath, IsPush, Pushes, nodes_on, before, hop_to, path_to, root_to, HasRoom, IsTight, IsTightArc, IsTransfer, IsAugmented, ArePushes, push_along, only_at, AreSmall, one_if, part_above_0, left, lack}
 use Rattle.augmentation.specs.Pseudoflow.{IsCertifiedPseudoflow}
 use Rattle.residual_graph.specs.declared.residual.ResidualArc.{ResidualArc}
 use Rattle.augmentation.proofs.TurnedRows.{number_at-neg, left-neg}
 use Rattle.augmentation.proofs.PathLemmas.{IsOnward, hops_tight, path_onward, root_depth}
 use Rattle.augmentation.proofs.PushLemmas.{AreApart, IsShift-along, IsFlow-along, NoneBelow-along, net-along, at_same, at_other}
 
-pub positive_part-mono : (a b : ℤ) → (pos 0 <ℤ a → a ≤ℤ b) → positive_part a ≤ positive_part b
-positive_part-mono (pos zero) b h = omega arith
-positive_part-mono (pos (suc n)) (pos m) h = omega (arith, ints, h (omega (arith, ints)))
-positive_part-mono (pos (suc n)) (negsuc m) h = omega (arith, ints, h (omega (arith, ints)))
-positive_part-mono (negsuc n) b h = omega arith
+pub part_above_0-mono : (a b : ℤ) → (pos 0 <ℤ a → a ≤ℤ b) → part_above_0 a ≤ part_above_0 b
+part_above_0-mono (pos zero) b h = omega arith
+part_above_0-mono (pos (suc n)) (pos m) h = omega (arith, ints, h (omega (arith, ints)))
+part_above_0-mono (pos (suc n)) (negsuc m) h = omega (arith, ints, h (omega (arith, ints)))
+part_above_0-mono (negsuc n) b h = omega arith
 
-pub positive_part-less : (a b : ℤ) → pos 0 <ℤ b → a <ℤ b → positive_part a < positive_part b
-positive_part-less (pos n) (pos m) h g = omega (arith, ints)
-positive_part-less (negsuc n) (pos m) h g = omega (arith, ints)
-positive_part-less a (negsuc m) h g = absurd (omega (arith, ints))
+pub part_above_0-less : (a b : ℤ) → pos 0 <ℤ b → a <ℤ b → part_above_0 a < part_above_0 b
+part_above_0-less (pos n) (pos m) h g = omega (arith, ints)
+part_above_0-less (negsuc n) (pos m) h g = omega (arith, ints)
+part_above_0-less a (negsuc m) h g = absurd (omega (arith, ints))
 
-pub left-mono : (e f : List ℤ) → length f ≡ length e → ((v : ℕ) → positive_part (number_at f v) ≤ positive_part (number_at e v)) → left f ≤ left e
+pub left-mono : (e f : List ℤ) → length f ≡ length e → ((v : ℕ) → part_above_0 (number_at f v) ≤ part_above_0 (number_at e v)) → left f ≤ left e
 left-mono [] [] sized le = omega arith
 left-mono [] (y ∷ f) sized le = absurd (omega arith)
 left-mono (x ∷ e) [] sized le = absurd (omega arith)
 left-mono (x ∷ e) (y ∷ f) sized le =
-    omega (arith, sum_by-cons positive_part x e, sum_by-cons positive_part y f, le 0, left-mono e f (omega arith) (λ v. le (suc v)))
+    omega (arith, sum_by-cons part_above_0 x e, sum_by-cons part_above_0 y f, le 0, left-mono e f (omega arith) (λ v. le (suc v)))
 
-pub left-less : (e f : List ℤ) (u : ℕ) → length f ≡ length e → u < length e → ((v : ℕ) → positive_part (number_at f v) ≤ positive_part (number_at e v)) → positive_part (number_at f u) < positive_part (number_at e u) → left f < left e
+pub left-less : (e f : List ℤ) (u : ℕ) → length f ≡ length e → u < length e → ((v : ℕ) → part_above_0 (number_at f v) ≤ part_above_0 (number_at e v)) → part_above_0 (number_at f u) < part_above_0 (number_at e u) → left f < left e
 left-less [] f u sized lt le less = absurd (omega arith)
 left-less (x ∷ e) [] u sized lt le less = absurd (omega arith)
 left-less (x ∷ e) (y ∷ f) zero sized lt le less =
-    omega (arith, sum_by-cons positive_part x e, sum_by-cons positive_part y f, less, left-mono e f (omega arith) (λ v. le (suc v)))
+    omega (arith, sum_by-cons part_above_0 x e, sum_by-cons part_above_0 y f, less, left-mono e f (omega arith) (λ v. le (suc v)))
 left-less (x ∷ e) (y ∷ f) (suc u) sized lt le less =
-    omega (arith, sum_by-cons positive_part x e, sum_by-cons positive_part y f, le 0, left-less e f u (omega arith) (omega arith) (λ v. le (suc v)) less)
+    omega (arith, sum_by-cons part_above_0 x e, sum_by-cons part_above_0 y f, le 0, left-less e f u (omega arith) (omega arith) (λ v. le (suc v)) less)
 
 pub left-small : (nodes : ℕ) (e : List ℤ) → AreSmall e → length e ≡ nodes → nodes ≤ entry_limit → left e ≤ left_limit
 left-small nodes e small sized few =
-    omega (arith, sum_by-le positive_part excess_limit e (λ k d lt. part_small (slice_index_or e k d) (rw (get_or_default e k d (pos 0) lt) (small.high k))))
+    omega (arith, sum_by-le part_above_0 excess_limit e (λ k d lt. part_small (slice_index_or e k d) (rw (get_or_default e k d (pos 0) lt) (small.high k))))
   where
-    part_small : (z : ℤ) → z ≤ℤ pos excess_limit → positive_part z ≤ excess_limit
+    part_small : (z : ℤ) → z ≤ℤ pos excess_limit → part_above_0 z ≤ excess_limit
     part_small (pos n) h = omega (arith, ints)
     part_small (negsuc n) h = omega arith
 
 pub lack-small : (e : List ℤ) → AreSmall e → length e ≤ entry_limit → lack e ≤ left_limit
 lack-small e small few =
-    omega (arith, sum_by-le (λ (z : ℤ). positive_part (neg_ℤ z)) excess_limit e (λ k d lt. part_small (slice_index_or e k d) (rw (get_or_default e k d (pos 0) lt) (small.low k))))
+    omega (arith, sum_by-le (λ (z : ℤ). part_above_0 (neg_ℤ z)) excess_limit e (λ k d lt. part_small (slice_index_or e k d) (rw (get_or_default e k d (pos 0) lt) (small.low k))))
   where
-    part_small : (z : ℤ) → neg_ℤ (pos excess_limit) ≤ℤ z → positive_part (neg_ℤ z) ≤ excess_limit
+    part_small : (z : ℤ) → neg_ℤ (pos excess_limit) ≤ℤ z → part_above_0 (neg_ℤ z) ≤ excess_limit
     part_small (pos zero) h = omega arith
     part_small (pos (suc n)) h = omega arith
     part_small (negsuc n) h = omega (arith, ints)
@@ -115,11 +115,11 @@ module _ (nodes : ℕ) (arcs : List ArcRow) (x e : List ℤ) (hops : List Residu
     left_falls : left f < left e
     left_falls =
         left-less e f root transfer.same_length (omega (arith, root_in, state.excess_sized))
-        (by_three (λ v. positive_part (number_at f v) ≤ positive_part (number_at e v))
-        (positive_part-mono (number_at f root) (number_at e root) (λ h. omega (arith, ints, f_root, at_least_1)))
-        (positive_part-mono (number_at f t) (number_at e t) (λ h. absurd (omega (arith, ints, h, f_target, in_deficit))))
-        (λ v same. positive_part-mono (number_at f v) (number_at e v) (λ h. omega (arith, ints, same))))
-        (positive_part-less (number_at f root) (number_at e root) (omega (arith, ints, in_excess, at_least_1)) (omega (arith, ints, f_root, at_least_1)))
+        (by_three (λ v. part_above_0 (number_at f v) ≤ part_above_0 (number_at e v))
+        (part_above_0-mono (number_at f root) (number_at e root) (λ h. omega (arith, ints, f_root, at_least_1)))
+        (part_above_0-mono (number_at f t) (number_at e t) (λ h. absurd (omega (arith, ints, h, f_target, in_deficit))))
+        (λ v same. part_above_0-mono (number_at f v) (number_at e v) (λ h. omega (arith, ints, same))))
+        (part_above_0-less (number_at f root) (number_at e root) (omega (arith, ints, in_excess, at_least_1)) (omega (arith, ints, f_root, at_least_1)))
 
     -- the target is in deficit, so it is one of the nodes
     target_in : t < length e
@@ -131,14 +131,14 @@ module _ (nodes : ℕ) (arcs : List ArcRow) (x e : List ℤ) (hops : List Residu
     lack_falls : lack f < lack e
     lack_falls =
         let lower = left-less (map neg_ℤ e) (map neg_ℤ f) t (omega (arith, length-map e neg_ℤ, length-map f neg_ℤ, transfer.same_length)) (omega (arith, length-map e neg_ℤ, target_in))
-        (by_three (λ v. positive_part (number_at (map neg_ℤ f) v) ≤ positive_part (number_at (map neg_ℤ e) v))
-        (positive_part-mono (number_at (map neg_ℤ f) root) (number_at (map neg_ℤ e) root) (λ h. absurd (omega (arith, ints, h, number_at-neg f root, f_root, in_excess))))
-        (positive_part-mono (number_at (map neg_ℤ f) t) (number_at (map neg_ℤ e) t) (λ h. omega (arith, ints, number_at-neg f t, number_at-neg e t, f_target, at_least_1)))
-        (λ v same. positive_part-mono (number_at (map neg_ℤ f) v) (number_at (map neg_ℤ e) v) (λ h. omega (arith, ints, number_at-neg f v, number_at-neg e v, same))))
-        (positive_part-less (number_at (map neg_ℤ f) t) (number_at (map neg_ℤ e) t) (omega (arith, ints, number_at-neg e t, in_deficit, at_least_1)) (omega (arith, ints, number_at-neg f t, number_at-neg e t, f_target, at_least_1))) in
+        (by_three (λ v. part_above_0 (number_at (map neg_ℤ f) v) ≤ part_above_0 (number_at (map neg_ℤ e) v))
+        (part_above_0-mono (number_at (map neg_ℤ f) root) (number_at (map neg_ℤ e) root) (λ h. absurd (omega (arith, ints, h, number_at-neg f root, f_root, in_excess))))
+        (part_above_0-mono (number_at (map neg_ℤ f) t) (number_at (map neg_ℤ e) t) (λ h. omega (arith, ints, number_at-neg f t, number_at-neg e t, f_target, at_least_1)))
+        (λ v same. part_above_0-mono (number_at (map neg_ℤ f) v) (number_at (map neg_ℤ e) v) (λ h. omega (arith, ints, number_at-neg f v, number_at-neg e v, same))))
+        (part_above_0-less (number_at (map neg_ℤ f) t) (number_at (map neg_ℤ e) t) (omega (arith, ints, number_at-neg e t, in_deficit, at_least_1)) (omega (arith, ints, number_at-neg f t, number_at-neg e t, f_target, at_least_1))) in
         omega (arith, lower, left-neg e, left-neg f)
 
-    net_after : (v : ℕ) → net arcs (push_along hops m x) v ≡ (net arcs x v +ℤ at_node root m v) -ℤ at_node t m v
+    net_after : (v : ℕ) → net arcs (push_along hops m x) v ≡ (net arcs x v +ℤ only_at root m v) -ℤ only_at t m v
     net_after v = net-along arcs hops m x root t v is.leads is.apart state.flow.same_length
 
     pub moving_after : IsMoving nodes arcs (push_along hops m x) f

@@ -7,7 +7,7 @@ use Rattle.network.specs.Flow.{outflow, inflow}
 use Rattle.residual_graph.specs.declared.residual.Way.{Way}
 use Rattle.residual_graph.specs.declared.residual.Way.TheVariants.{Backward, Forward}
 use Rattle.residual_graph.specs.Residual.{IsResidual, row_at, end_at, end_of, number_at, room_of, start_at, start_of}
-use Rattle.augmentation.specs.Push.{at_node, positive_part, left, lack}
+use Rattle.augmentation.specs.Push.{only_at, part_above_0, left, lack}
 
 -- an arc with its ends exchanged: residual arcs go along it in the same ways, at the same costs, from their end to their start
 abbrev pub turned_row : ArcRow → ArcRow
@@ -54,12 +54,12 @@ residual-unturned arcs x k way residual = record {
 pub outflow-turned : (arcs : List ArcRow) (x : List ℤ) (v : ℕ) → outflow (map turned_row arcs) x v ≡ inflow arcs x v
 outflow-turned [] x v = refl
 outflow-turned (a ∷ arcs) [] v = refl
-outflow-turned (a ∷ arcs) (y ∷ x) v = ap (λ (n : ℤ). at_node a.head y v +ℤ n) (outflow-turned arcs x v)
+outflow-turned (a ∷ arcs) (y ∷ x) v = ap (λ (n : ℤ). only_at a.head y v +ℤ n) (outflow-turned arcs x v)
 
 pub inflow-turned : (arcs : List ArcRow) (x : List ℤ) (v : ℕ) → inflow (map turned_row arcs) x v ≡ outflow arcs x v
 inflow-turned [] x v = refl
 inflow-turned (a ∷ arcs) [] v = refl
-inflow-turned (a ∷ arcs) (y ∷ x) v = ap (λ (n : ℤ). at_node a.tail y v +ℤ n) (inflow-turned arcs x v)
+inflow-turned (a ∷ arcs) (y ∷ x) v = ap (λ (n : ℤ). only_at a.tail y v +ℤ n) (inflow-turned arcs x v)
 
 pub number_at-neg : (e : List ℤ) (v : ℕ) → number_at (map neg_ℤ e) v ≡ neg_ℤ (number_at e v)
 number_at-neg [] v = refl
@@ -69,4 +69,4 @@ number_at-neg (z ∷ e) (suc v) = number_at-neg e v
 -- what lies in excess there is lacking here
 pub left-neg : (e : List ℤ) → left (map neg_ℤ e) ≡ lack e
 left-neg [] = refl
-left-neg (z ∷ e) = omega (arith, sum_by-cons positive_part (neg_ℤ z) (map neg_ℤ e), sum_by-cons (λ (y : ℤ). positive_part (neg_ℤ y)) z e, left-neg e)
+left-neg (z ∷ e) = omega (arith, sum_by-cons part_above_0 (neg_ℤ z) (map neg_ℤ e), sum_by-cons (λ (y : ℤ). part_above_0 (neg_ℤ y)) z e, left-neg e)

@@ -13,8 +13,8 @@ use Rattle.residual_graph.specs.declared.residual.ResidualArc.{ResidualArc}
 use Rattle.residual_graph.specs.declared.residual.Way.{Way}
 use Rattle.residual_graph.specs.declared.residual.Way.TheVariants.{Forward, Backward}
 use Rattle.residual_graph.specs.Residual.{end_at, end_of, number_at, other_way, row_at, start_at, start_of, turned}
-use Rattle.augmentation.specs.Push.{IsPath, at_node, nodes_on}
-use Rattle.augmentation.specs.Changes.{IsChange, IsWantedPath, rank_at, wanted_along, wanted_of}
+use Rattle.augmentation.specs.Push.{IsPath, only_at, nodes_on}
+use Rattle.augmentation.specs.Changes.{IsAcyclicChange, IsWantedPath, rank_of, wanted_along, wanted_of}
 use Rattle.augmentation.proofs.PushLemmas.{at_other, at_same}
 
 wanted_or_not : (z : ℤ) → (pos 1 ≤ℤ z) ⊎ (z ≤ℤ pos 0)
@@ -49,10 +49,10 @@ record SendsNoMore (rows : List ArcRow) (x y : List ℤ) (v : ℕ) : Type 0 wher
   pub less : (h : ResidualArc) → IsWanted rows x y h → end_at rows h.arc h.way ≡ v → net rows y v <ℤ net rows x v
 
 -- what lies at a node, by whether it is this one
-here : (u v : ℕ) → u ≡ v → (m : ℤ) → at_node u m v ≡ m
-here u v same m = ap (at_node u m) (sym same) ∙ at_same u m
+here : (u v : ℕ) → u ≡ v → (m : ℤ) → only_at u m v ≡ m
+here u v same m = ap (only_at u m) (sym same) ∙ at_same u m
 
-here_or_not : (u v : ℕ) → ((u ≡ v) × ((m : ℤ) → at_node u m v ≡ m)) ⊎ ((m : ℤ) → at_node u m v ≡ pos 0)
+here_or_not : (u v : ℕ) → ((u ≡ v) × ((m : ℤ) → only_at u m v ≡ m)) ⊎ ((m : ℤ) → only_at u m v ≡ pos 0)
 here_or_not u v = elim (cases_eq u v) [
   | inl same ↦ inl (same, here u v same)
   | inr ne ↦ inr (λ m. at_other u m v (λ same. ne (sym same)))
@@ -60,7 +60,7 @@ here_or_not u v = elim (cases_eq u v) [
 
 -- an arc with flow x adds this to what node v sends out
 abbrev sent : ArcRow → ℤ → ℕ → ℤ
-sent a x v = at_node a.tail x v -ℤ at_node a.head x v
+sent a x v = only_at a.tail x v -ℤ only_at a.head x v
 
 -- an arc of which no change starts at v adds no more than before,
 sent_not_more : (a : ArcRow) (x y : ℤ) (v : ℕ) → NoneOn a x y v → sent a y v ≤ℤ sent a x v
@@ -145,7 +145,7 @@ abbrev total : List ℕ → ℕ
 total ranks = sum_by (λ r. r) ranks
 
 -- no rank is above their total
-rank_bounded : (ranks : List ℕ) (v : ℕ) → rank_at ranks v ≤ total ranks
+rank_bounded : (ranks : List ℕ) (v : ℕ) → rank_of ranks v ≤ total ranks
 rank_bounded ranks v = elim (cases_lt v (length ranks)) [
   | inl lt ↦ get_or-le-sum_by (λ r. r) ranks v 0 lt
   | inr past ↦ omega (arith, get_or_past ranks v 0 past)
@@ -154,12 +154,12 @@ rank_bounded ranks v = elim (cases_lt v (length ranks)) [
 AllPairs-nil : {X : Type 0} (R : X → X → Type 0) → AllPairs R []
 AllPairs-nil R i j d h g = absurd (omega arith)
 
-module _ (nodes : ℕ) (rows : List ArcRow) (x e y f : List ℤ) (ranks : List ℕ) (is : IsChange nodes rows x e y f ranks) where
+module _ (nodes : ℕ) (rows : List ArcRow) (x e y f : List ℤ) (ranks : List ℕ) (is : IsAcyclicChange nodes rows x e y f ranks) where
   -- ---- changes
 
   -- the residual arc leads from a node to one of higher rank
   record IsRise (k : ℕ) (way : Way) : Type 0 where
-    pub higher : rank_at ranks (start_at rows k way) < rank_at ranks (end_at rows k way)
+    pub higher : rank_of ranks (start_at rows k way) < rank_of ranks (end_at rows k way)
     pub start_in : start_at rows k way < nodes
     pub end_in : end_at rows k way < nodes
 
@@ -197,7 +197,7 @@ module _ (nodes : ℕ) (rows : List ArcRow) (x e y f : List ℤ) (ranks : List �
     pub target_in : target < nodes
     pub leads : IsPath rows hops v target
     pub simple : AllPairs ◌≢◌ (nodes_on rows hops v)
-    pub above : All (λ w. rank_at ranks v ≤ rank_at ranks w) (nodes_on rows hops v)
+    pub above : All (λ w. rank_of ranks v ≤ rank_of ranks w) (nodes_on rows hops v)
     pub arcs : All (λ h. h.arc < length rows) hops
     pub wanted : All (λ h. pos 1 ≤ℤ wanted_along x y h) hops
     pub takes : (number_at e target <ℤ number_at f target) × (number_at f target ≤ℤ pos 0)
@@ -209,7 +209,7 @@ module _ (nodes : ℕ) (rows : List ArcRow) (x e y f : List ℤ) (ranks : List �
     target_in = lt;
     leads = refl;
     simple = AllPairs-cons ◌≢◌ v [] (All-nil (λ w. v ≢ w)) (AllPairs-nil ◌≢◌);
-    above = All-cons (λ w. rank_at ranks v ≤ rank_at ranks w) v [] (omega arith) (All-nil (λ w. rank_at ranks v ≤ rank_at ranks w));
+    above = All-cons (λ w. rank_of ranks v ≤ rank_of ranks w) v [] (omega arith) (All-nil (λ w. rank_of ranks v ≤ rank_of ranks w));
     arcs = All-nil (λ h. h.arc < length rows);
     wanted = All-nil (λ h. pos 1 ≤ℤ wanted_along x y h);
     takes = takes;
@@ -220,36 +220,36 @@ module _ (nodes : ℕ) (rows : List ArcRow) (x e y f : List ℤ) (ranks : List �
       let u = start_at rows h.arc h.way in
       let v = end_at rows h.arc h.way in
       let others = nodes_on rows on.hops v in
-      let higher : All (λ w. rank_at ranks u < rank_at ranks w) others = All-weaker (λ w. rank_at ranks v ≤ rank_at ranks w) (λ w. rank_at ranks u < rank_at ranks w) (λ w at_least. omega (arith, at_least, (rise_of h wanted).higher)) others on.above in
+      let higher : All (λ w. rank_of ranks u < rank_of ranks w) others = All-weaker (λ w. rank_of ranks v ≤ rank_of ranks w) (λ w. rank_of ranks u < rank_of ranks w) (λ w at_least. omega (arith, at_least, (rise_of h wanted).higher)) others on.above in
       record {
         hops = h ∷ on.hops;
         target = on.target;
         target_in = on.target_in;
         leads = (refl, on.leads);
-        simple = AllPairs-cons ◌≢◌ u others (All-weaker (λ w. rank_at ranks u < rank_at ranks w) (λ w. u ≢ w) (λ w lt same. absurd (omega (arith, lt, ap (rank_at ranks) same))) others higher) on.simple;
-        above = All-cons (λ w. rank_at ranks u ≤ rank_at ranks w) u others (omega arith) (All-weaker (λ w. rank_at ranks u < rank_at ranks w) (λ w. rank_at ranks u ≤ rank_at ranks w) (λ w lt. omega (arith, lt)) others higher);
+        simple = AllPairs-cons ◌≢◌ u others (All-weaker (λ w. rank_of ranks u < rank_of ranks w) (λ w. u ≢ w) (λ w lt same. absurd (omega (arith, lt, ap (rank_of ranks) same))) others higher) on.simple;
+        above = All-cons (λ w. rank_of ranks u ≤ rank_of ranks w) u others (omega arith) (All-weaker (λ w. rank_of ranks u < rank_of ranks w) (λ w. rank_of ranks u ≤ rank_of ranks w) (λ w lt. omega (arith, lt)) others higher);
         arcs = All-cons (λ g. g.arc < length rows) h on.hops wanted.is_arc on.arcs;
         wanted = All-cons (λ g. pos 1 ≤ℤ wanted_along x y g) h on.hops wanted.wanted on.wanted;
         takes = on.takes;
       }
 
   -- on from the end of a change: each hop leads higher, and no rank is above the total
-  go_on : (d : ℕ) (h : ResidualArc) → IsWanted rows x y h → total ranks < d + rank_at ranks (end_at rows h.arc h.way) → IsOnward (end_at rows h.arc h.way)
+  go_on : (d : ℕ) (h : ResidualArc) → IsWanted rows x y h → total ranks < d + rank_of ranks (end_at rows h.arc h.way) → IsOnward (end_at rows h.arc h.way)
   go_on zero h wanted low = absurd (omega (arith, low, rank_bounded ranks (end_at rows h.arc h.way)))
   go_on (suc d) h wanted low = elim (start_or_none rows x y (end_at rows h.arc h.way) is.before.same_length is.after.same_length) [
-    | inl next ↦ (let rank = ap (rank_at ranks) next.at in
+    | inl next ↦ (let rank = ap (rank_of ranks) next.at in
         subst IsOnward next.at (onward_more next.hop next.wanted (go_on d next.hop next.wanted (omega (arith, low, rank, (rise_of next.hop next.wanted).higher)))))
     | inr sends ↦ onward_none (end_at rows h.arc h.way) (rise_of h wanted).end_in (takes_at h (end_at rows h.arc h.way) wanted refl sends)
   ]
 
   -- back from the start of a change: each hop back leads lower
-  go_back : (d : ℕ) (h : ResidualArc) → IsWanted rows x y h → rank_at ranks (start_at rows h.arc h.way) < d → IsOnward (start_at rows h.arc h.way) → IsWantedPath nodes rows x e y f
+  go_back : (d : ℕ) (h : ResidualArc) → IsWanted rows x y h → rank_of ranks (start_at rows h.arc h.way) < d → IsOnward (start_at rows h.arc h.way) → IsWantedPath nodes rows x e y f
   go_back zero h wanted low on = absurd (omega (arith, low))
   go_back (suc d) h wanted low on = elim (start_or_none rows y x (start_at rows h.arc h.way) is.after.same_length is.before.same_length) [
     | inl start ↦ (let last = turned start.hop in
         let last_wanted = turned_wanted rows y x start.hop start.wanted in
         let ends = turned_end (row_at rows last.arc) start.hop.way ∙ start.at in
-        let rank = ap (rank_at ranks) ends in
+        let rank = ap (rank_of ranks) ends in
         go_back d last last_wanted (omega (arith, low, rank, (rise_of last last_wanted).higher)) (onward_more last last_wanted (subst IsOnward (sym ends) on)))
     | inr sends ↦ record {
       hops = on.hops;
@@ -268,7 +268,7 @@ module _ (nodes : ℕ) (rows : List ArcRow) (x e y f : List ℤ) (ranks : List �
 
   path_through : (h : ResidualArc) → IsWanted rows x y h → IsWantedPath nodes rows x e y f
   path_through h wanted =
-      go_back (suc (rank_at ranks (start_at rows h.arc h.way))) h wanted (omega arith) (onward_more h wanted (go_on (suc (total ranks)) h wanted (omega arith)))
+      go_back (suc (rank_of ranks (start_at rows h.arc h.way))) h wanted (omega arith) (onward_more h wanted (go_on (suc (total ranks)) h wanted (omega arith)))
 
   -- where an arc is to carry another flow, a path of changes leads from a source to a target
   pub wanted_path : (k : ℕ) → k < length rows → number_at x k ≢ number_at y k → IsWantedPath nodes rows x e y f

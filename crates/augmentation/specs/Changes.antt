@@ -11,13 +11,13 @@ use Rattle.residual_graph.specs.Residual.{IsPseudoflow, number_at, row_at}
 use Rattle.augmentation.specs.Push.{AreSmall, IsPath, nodes_on}
 
 -- the rank of a node
-abbrev pub rank_at : List ℕ → ℕ → ℕ
-rank_at ranks v = slice_index_or ranks v 0
+abbrev pub rank_of : List ℕ → ℕ → ℕ
+rank_of ranks v = slice_index_or ranks v 0
 
 -- where arc k is to carry more, its head has a higher rank than its tail; where it is to carry less, its tail has
 pub record RisesAt (rows : List ArcRow) (x y : List ℤ) (ranks : List ℕ) (k : ℕ) : Type 0 where
-  pub more : number_at x k <ℤ number_at y k → rank_at ranks (row_at rows k).tail < rank_at ranks (row_at rows k).head
-  pub less : number_at y k <ℤ number_at x k → rank_at ranks (row_at rows k).head < rank_at ranks (row_at rows k).tail
+  pub more : number_at x k <ℤ number_at y k → rank_of ranks (row_at rows k).tail < rank_of ranks (row_at rows k).head
+  pub less : number_at y k <ℤ number_at x k → rank_of ranks (row_at rows k).head < rank_of ranks (row_at rows k).tail
 
 -- each change from flow x to flow y leads to a node of higher rank: so none turn in a circle
 abbrev pub Rises : List ArcRow → List ℤ → List ℤ → List ℕ → Type 0
@@ -35,7 +35,7 @@ abbrev pub IsExcessAfter : List ArcRow → List ℤ → List ℤ → List ℤ �
 IsExcessAfter rows x e y f = (v : ℕ) → number_at f v ≡ number_at e v -ℤ (net rows y v -ℤ net rows x v)
 
 -- flow x with excess e is changed to flow y with excess f; no changes turn in a circle, and each node comes nearer to balance
-pub record IsChange (nodes : ℕ) (rows : List ArcRow) (x e y f : List ℤ) (ranks : List ℕ) : Type 0 where
+pub record IsAcyclicChange (nodes : ℕ) (rows : List ArcRow) (x e y f : List ℤ) (ranks : List ℕ) : Type 0 where
   pub before : IsPseudoflow nodes rows x
   pub after : IsPseudoflow nodes rows y
   pub excess_sized : length e ≡ nodes

@@ -6,7 +6,7 @@ use Rattle.residual_graph.specs.declared.residual.Way.{Way}
 use Rattle.residual_graph.specs.declared.side.Side.{Side}
 use Rattle.residual_graph.specs.declared.side.Side.TheVariants.{Ahead, Behind}
 use Rattle.augmentation.specs.Marked.{MarkedView}
-use Rattle.augmentation.specs.Push.{left, positive_part}
+use Rattle.augmentation.specs.Push.{left, part_above_0}
 pub use Rattle.augmentation.specs.Push.{lack}
 use Rattle.residual_graph.specs.Residual.{number_at, row_at, start_of, end_of, IsResidual}
 use Rattle.residual_graph.specs.Side.{IsRoot}
@@ -46,8 +46,8 @@ pub record IsLeastSet (value : List Bool → ℤ) (set : List Bool) (d : ℤ) : 
 
 -- what a node with this excess has as a root of a side: its excess ahead, its deficit behind
 abbrev pub amount_of : Side → ℤ → ℕ
-amount_of Ahead z = positive_part z
-amount_of Behind z = positive_part (neg_ℤ z)
+amount_of Ahead z = part_above_0 z
+amount_of Behind z = part_above_0 (neg_ℤ z)
 
 -- what lies at the roots of a side
 abbrev pub amount : Side → List ℤ → ℕ
@@ -87,7 +87,7 @@ abbrev pub HasNoDeficit : List ℤ → List Bool → Type 0
 HasNoDeficit e set = (v : ℕ) → in_set set v ≡ true → pos 0 ≤ℤ number_at e v
 
 -- the nodes that those in excess reach, or those that reach a node in deficit
-pub record IsSide (side : Side) (arcs : List ArcRow) (x e : List ℤ) (set : List Bool) : Type 0 where
+pub record AreOnSide (side : Side) (arcs : List ArcRow) (x e : List ℤ) (set : List Bool) : Type 0 where
   pub closed : IsClosed side arcs x set
   pub holds : HoldsRoots side e set
   pub least : (other : List Bool) → IsClosed side arcs x other → HoldsRoots side e other → (v : ℕ) → in_set set v ≡ true → in_set other v ≡ true
@@ -108,8 +108,8 @@ pub record AreMarkedListed (listed marks : List Bool) : Type 0 where
 
 -- where something lies in excess, the nodes that it reaches; else those that reach a node in deficit
 pub record IsSideOfCut (arcs : List ArcRow) (x e : List ℤ) (set : List Bool) : Type 0 where
-  pub in_excess : 0 < left e → IsSide Ahead arcs x e set
-  pub no_excess : left e ≡ 0 → IsSide Behind arcs x e set
+  pub in_excess : 0 < left e → AreOnSide Ahead arcs x e set
+  pub no_excess : left e ≡ 0 → AreOnSide Behind arcs x e set
 
 -- no node in excess reaches a node in deficit: some set that no residual arc leaves holds all the former and none of the latter
 pub record IsParted (arcs : List ArcRow) (x e : List ℤ) : Type 0 where

@@ -1,7 +1,7 @@
 -- A flow that is changed to a wanted one at once.
 use Rattle.std.specs.Prelude.{◌≡◌, ℕ, ◌+◌, ◌<◌, ◌≤◌, ℤ, ◌<ℤ◌, List, length}
 use Rattle.dimacs_text.specs.declared.problem.ArcRow.{ArcRow}
-use Rattle.augmentation.specs.Changes.{IsChange, rank_at}
+use Rattle.augmentation.specs.Changes.{IsAcyclicChange, rank_of}
 use Rattle.augmentation.specs.Push.{left}
 use Rattle.tracked.specs.Journal.{IsJournal, IsSince}
 use Rattle.tracked.specs.declared.journal.Journal.{Journal}
@@ -20,11 +20,11 @@ pub record IsLed (i j : Journal) (xs ys : List ℤ) : Type 0 where
 
 -- where an arc carries y in place of x, the change leads to a node of higher rank
 pub record RisesBetween (a : ArcRow) (x y : ℤ) (ranks : List ℕ) : Type 0 where
-  pub more : x <ℤ y → rank_at ranks a.tail < rank_at ranks a.head
-  pub less : y <ℤ x → rank_at ranks a.head < rank_at ranks a.tail
+  pub more : x <ℤ y → rank_of ranks a.tail < rank_of ranks a.head
+  pub less : y <ℤ x → rank_of ranks a.head < rank_of ranks a.tail
 
 -- flow x with excess e is changed to flow y with excess f, and n units are moved
 pub record IsExchange (nodes : ℕ) (rows : List ArcRow) (n : ℕ) (x e y f : List ℤ) : Type 0 where
   pub ranks : List ℕ
-  pub change : IsChange nodes rows x e y f ranks
+  pub change : IsAcyclicChange nodes rows x e y f ranks
   pub units : n + left f ≡ left e

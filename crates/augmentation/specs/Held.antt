@@ -21,21 +21,21 @@ abbrev pub AreTestedIn : List ArcRow → List ℤ → TreeView → Type 0
 AreTestedIn rows x t = AreTested rows x t.labels t.predecessors
 
 -- they do but at noted arcs, and are so but at nodes beside them
-pub record IsHeld (rows : List ArcRow) (x q : List ℤ) (t : List Predecessor) (noted beside : List Bool) : Type 0 where
+pub record AreHeld (rows : List ArcRow) (x q : List ℤ) (t : List Predecessor) (noted beside : List Bool) : Type 0 where
   pub in_range : AreInRange q
   pub arcs : (k : ℕ) → k < length rows → in_set noted k ≡ false → KeepsRow (row_at rows k) (number_at x k) q
   pub nodes : (v : ℕ) → v < length q → in_set beside v ≡ false → IsTracedAt rows x q t v
 
 -- each label is within the range of labels
-abbrev pub IsInRange : ℤ → Type 0
-IsInRange label = (neg_ℤ (pos label_floor) ≤ℤ label) × (label ≤ℤ pos 0)
+abbrev pub IsInLabelRange : ℤ → Type 0
+IsInLabelRange label = (neg_ℤ (pos label_floor) ≤ℤ label) × (label ≤ℤ pos 0)
 
 abbrev pub IsInRangeAt : List ℤ → ℕ → Type 0
-IsInRangeAt q v = IsInRange (number_at q v)
+IsInRangeAt q v = IsInLabelRange (number_at q v)
 
 -- labels are held under a flow, unless they are lost
 abbrev pub IsHeldIn : List ArcRow → List ℤ → HeldView → Type 0
-IsHeldIn rows x h = h.is_lost ≡ false → IsHeld rows x h.labels h.predecessors h.noted h.beside
+IsHeldIn rows x h = h.is_lost ≡ false → AreHeld rows x h.labels h.predecessors h.noted h.beside
 
 -- arc k is certified, and a node that hangs on it is traced
 pub record HoldsAlong (rows : List ArcRow) (x q : List ℤ) (t : List Predecessor) (k : ℕ) : Type 0 where

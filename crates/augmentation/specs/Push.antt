@@ -56,17 +56,17 @@ Pushes arcs supply zero x y = x ≡ y
 Pushes arcs supply (suc n) x y = (z : List ℤ) × Pushes arcs supply n x z × IsPush arcs supply z y
 
 -- the part of a number above 0
-abbrev pub positive_part : ℤ → ℕ
-positive_part (pos n) = n
-positive_part (negsuc n) = 0
+abbrev pub part_above_0 : ℤ → ℕ
+part_above_0 (pos n) = n
+part_above_0 (negsuc n) = 0
 
 -- the sum of what lies in excess
 abbrev pub left : List ℤ → ℕ
-left excess = sum_by positive_part excess
+left excess = sum_by part_above_0 excess
 
 -- the sum of what lies in deficit
 abbrev pub lack : List ℤ → ℕ
-lack e = sum_by (λ z. positive_part (neg_ℤ z)) e
+lack e = sum_by (λ z. part_above_0 (neg_ℤ z)) e
 
 -- the arc by which the search came to v, and the node before v
 abbrev pub hop_to : List Predecessor → ℕ → ResidualArc
@@ -112,8 +112,8 @@ IsTight arcs q (h ∷ hops) =
     IsTightArc arcs q h.arc h.way × IsTight arcs q hops
 
 -- m at node u, and nothing at another node
-abbrev pub at_node : ℕ → ℤ → ℕ → ℤ
-at_node u m v = if u == v then m else pos 0
+abbrev pub only_at : ℕ → ℤ → ℕ → ℤ
+only_at u m v = if u == v then m else pos 0
 
 -- no excess and no deficit is above the limit
 pub record AreSmall (e : List ℤ) : Type 0 where
@@ -123,7 +123,7 @@ pub record AreSmall (e : List ℤ) : Type 0 where
 -- f is e with m moved from the excess of u to the deficit of w
 pub record IsTransfer (u w : ℕ) (m : ℤ) (e f : List ℤ) : Type 0 where
   pub same_length : length f ≡ length e
-  pub by_node : (v : ℕ) → number_at f v ≡ (number_at e v -ℤ at_node u m v) +ℤ at_node w m v
+  pub by_node : (v : ℕ) → number_at f v ≡ (number_at e v -ℤ only_at u m v) +ℤ only_at w m v
 
 -- one push, or none
 abbrev pub one_if : Bool → ℕ
@@ -151,7 +151,7 @@ pub record IsAugmented (arcs : List ArcRow) (s : List Predecessor) (t : ℕ) (x 
 
 -- the sum of all capacities
 abbrev pub cap_total : List ArcRow → ℕ
-cap_total arcs = sum_by (λ a. positive_part a.cap) arcs
+cap_total arcs = sum_by (λ a. part_above_0 a.cap) arcs
 
 -- each supply is within its limit either way
 pub record AreSupplies (supply : ℕ → ℤ) : Type 0 where

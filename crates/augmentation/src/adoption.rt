@@ -8,7 +8,7 @@ ghost use Rattle.tracked.specs.Marks.{in_set};
 ghost use Rattle.tracked.specs.Tracked.{IsWritten};
 ghost use Rattle.augmentation.specs.Adoption.{IsAsBefore, IsCertifiedBy};
 ghost use Rattle.augmentation.specs.Attempt.{IsAttemptFor};
-ghost use Rattle.augmentation.specs.Cut.{IsParted, IsSide};
+ghost use Rattle.augmentation.specs.Cut.{IsParted, AreOnSide};
 ghost use Rattle.augmentation.specs.Exchange.{IsExchange, IsJournalFor};
 ghost use Rattle.augmentation.specs.Held.{IsHeldIn};
 ghost use Rattle.augmentation.specs.Pseudoflow.{IsCertifiedPseudoflow, IsReady};
@@ -241,7 +241,7 @@ pub fn push_all(
     ensures pushed { ArePushes graph.now.rows result.count flow.old.entries excess.old flow.new.entries excess.new }
     ensures parted { IsParted graph.now.rows flow.new.entries excess.new }
     ensures greatest { IsTrue result.are_greatest → AreShortest graph.now.rows flow.new.entries scratch.new.potentials }
-    ensures marked { IsTrue result.are_marked → IsSide Ahead graph.now.rows flow.new.entries excess.new scratch.new.marks }
+    ensures marked { IsTrue result.are_marked → AreOnSide Ahead graph.now.rows flow.new.entries excess.new scratch.new.marks }
     ensures held { IsHeldIn graph.now.rows flow.new.whole scratch.new.held }
 {
     let pushed = push_proposed(graph, flow, excess, scratch);

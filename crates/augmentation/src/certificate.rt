@@ -2,7 +2,7 @@
 
 ghost use Rattle.std.specs.Prelude.{◌≡◌, ◌↔◌, ◌<◌, IsTrue, length};
 ghost use Rattle.residual_graph.specs.Residual.{IsPseudoflow, IsRow, IsWithinRow, number_at, row_at};
-ghost use Rattle.augmentation.specs.Certificate.{AreCertifying, AreInRange, AreWithin, IsNoneBelowAt, KeepsRow};
+ghost use Rattle.augmentation.specs.Certificate.{AreCertifying, AreInRange, IsWithinRows, IsNoneBelowAt, KeepsRow};
 
 use dimacs_text::ArcRow;
 use residual_graph::{Graph, Way};
@@ -78,7 +78,7 @@ pub fn certifies(graph: &Graph, flow: &[i64], potentials: &[i64]) -> bool
 
 /// Whether a flow has one entry an arc, each within the bounds.
 pub fn is_within(graph: &Graph, flow: &[i64]) -> bool
-    ensures { IsTrue result ↔ AreWithin graph.now.rows flow.now }
+    ensures { IsTrue result ↔ IsWithinRows graph.now.rows flow.now }
 {
     let rows = graph.rows();
     if rows.len() != flow.len() {

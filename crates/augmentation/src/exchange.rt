@@ -7,7 +7,7 @@ ghost use Rattle.augmentation.specs.Changes.{AreNearer, IsExcessAfter, IsNearer,
 ghost use Rattle.augmentation.specs.Exchange.{IsExchange, IsJournalFor, IsLed, RisesBetween};
 ghost use Rattle.tracked.specs.Journal.{IsJournal, IsSince};
 ghost use Rattle.tracked.specs.Marks.{in_set};
-ghost use Rattle.augmentation.specs.Push.{AreSmall, IsTransfer, left, positive_part};
+ghost use Rattle.augmentation.specs.Push.{AreSmall, IsTransfer, left, part_above_0};
 
 use crate::draft::Draft;
 use dimacs_text::ArcRow;
@@ -138,7 +138,7 @@ fn rise(graph: &Graph, flow: &[i64], journal: &Journal, ranks: &[u32]) -> bool
 
 /// How much a node gave; none where its excess or deficit did not come nearer to 0.
 fn given(before: i64, after: i64) -> Option<u64>
-    ensures { IfSome result (λ n. IsNearer before after × (n + positive_part after ≡ positive_part before)) }
+    ensures { IfSome result (λ n. IsNearer before after × (n + part_above_0 after ≡ part_above_0 before)) }
 {
     if 0 <= after && after <= before {
         Some((before - after) as u64)

@@ -8,7 +8,7 @@ ghost use Rattle.residual_graph.specs.declared.side.Side.TheVariants.{Ahead};
 ghost use Rattle.shortest_paths.specs.Search.{IsForest, IsSearch};
 ghost use Rattle.shortest_paths.specs.Tree.{AreArcsNoted, StaysHeld};
 ghost use Rattle.augmentation.specs.Certificate.{AreInRange};
-ghost use Rattle.augmentation.specs.Cut.{IsParted, IsSide};
+ghost use Rattle.augmentation.specs.Cut.{IsParted, AreOnSide};
 ghost use Rattle.augmentation.specs.Held.{IsHeldIn};
 ghost use Rattle.augmentation.specs.Settle.{AreShortest};
 
@@ -163,7 +163,7 @@ impl Scratch {
         requires flow { IsPseudoflow (length self.old.potentials) graph.now.rows flow.now }
         requires excess { length excess.now ≡ length self.old.potentials }
         ensures same { self.new ≡ record self.old { marks = self.new.marks } }
-        ensures marked { IsSide Ahead graph.now.rows flow.now excess.now self.new.marks }
+        ensures marked { AreOnSide Ahead graph.now.rows flow.now excess.now self.new.marks }
         ensures parted { IsTrue result → IsParted graph.now.rows flow.now excess.now }
     {
         self.mark_side(Side::Ahead, graph, flow, excess);
@@ -176,7 +176,7 @@ impl Scratch {
         requires flow { IsPseudoflow (length self.old.potentials) graph.now.rows flow.now }
         requires excess { length excess.now ≡ length self.old.potentials }
         ensures same { self.new ≡ record self.old { marks = self.new.marks } }
-        ensures marked { IsSide side graph.now.rows flow.now excess.now self.new.marks }
+        ensures marked { AreOnSide side graph.now.rows flow.now excess.now self.new.marks }
     {
         mark_side(side, graph, flow, excess, &mut self.marked);
     }

@@ -3,7 +3,7 @@
 ghost use Rattle.std.specs.Prelude.{◌≡◌, ℕ, length, ◌<◌, true};
 ghost use Rattle.residual_graph.specs.Residual.{IsPseudoflow};
 ghost use Rattle.residual_graph.specs.Graph.{HasEntries};
-ghost use Rattle.augmentation.specs.Cut.{AreRoots, IsSide, IsGrown, IsFarIn, AreFarIn, near_at, near_of, far_of};
+ghost use Rattle.augmentation.specs.Cut.{AreRoots, AreOnSide, IsGrown, IsFarIn, AreFarIn, near_at, near_of, far_of};
 ghost use Rattle.tracked.specs.Marks.{in_set};
 ghost use Rattle.residual_graph.specs.declared.residual.Way.{Way};
 
@@ -32,7 +32,7 @@ pub(crate) fn mark_side(
     requires flow { IsPseudoflow (length excess.now) graph.now.rows flow.now }
     requires marked_in { length marked.old.marks ≡ length excess.now }
     ensures same_size { length marked.new.marks ≡ length marked.old.marks }
-    ensures side { IsSide side graph.now.rows flow.now excess.now marked.new.marks }
+    ensures side { AreOnSide side graph.now.rows flow.now excess.now marked.new.marks }
 {
     mark_roots(side, excess, marked);
     let mut next = 0;

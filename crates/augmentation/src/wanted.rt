@@ -2,7 +2,7 @@
 
 ghost use Rattle.std.specs.Prelude.{◌≡◌, ℕ, ◌<◌, pos, neg_ℤ, ◌-ℤ◌, ◌≤ℤ◌, length};
 ghost use Rattle.residual_graph.specs.Residual.{number_at};
-ghost use Rattle.augmentation.specs.Wanted.{AreAlike, AreModerate, shift_limit};
+ghost use Rattle.augmentation.specs.Wanted.{AreLoweredAlike, AreModerate, shift_limit};
 
 /// How far from 0 potentials may lie that are shifted.
 const SHIFT_LIMIT: i64 = 4_000_000_000_000_000_000;
@@ -11,7 +11,7 @@ const SHIFT_LIMIT: i64 = 4_000_000_000_000_000_000;
 pub fn shift_potentials(potentials: &mut [i64])
     ensures same_length { length potentials.new ≡ length potentials.old }
     ensures at_most_0 { (v : ℕ) → number_at potentials.new v ≤ℤ pos 0 }
-    ensures alike { AreModerate potentials.old → AreAlike potentials.old potentials.new }
+    ensures alike { AreModerate potentials.old → AreLoweredAlike potentials.old potentials.new }
 {
     let greatest = greatest_of(potentials);
     for p in potentials.iter_mut() {

@@ -20,7 +20,7 @@ use Rattle.flow_solver.specs.declared.verdict.Verdict.TheVariants.{Best, Infeasi
 use Rattle.augmentation.specs.Limits.{supply_limit}
 use Rattle.shortest_paths.specs.Limits.{label_floor}
 use Rattle.residual_graph.specs.Residual.{IsReducedCostOptimal, ArePotentials, number_at, row_at}
-use Rattle.augmentation.specs.Push.{AreSmall, IsExcess, AreSupplies, positive_part, left, cap_total}
+use Rattle.augmentation.specs.Push.{AreSmall, IsExcess, AreSupplies, part_above_0, left, cap_total}
 use Rattle.augmentation.specs.Cut.{sum_in, sum_leaving, sum_entering, lack, IsChosenSet}
 use Rattle.tracked.specs.Marks.{in_set}
 use Rattle.augmentation.specs.Nodes.{held}
@@ -174,7 +174,7 @@ sum_in-within (false ∷ set) f small = (let rest = sum_in-within set (λ v. f (
 abbrev AreRows : List ArcRow → Type 0
 AreRows arcs = (k : ℕ) → k < length arcs → (pos 0 ≤ℤ (row_at arcs k).low) × ((row_at arcs k).low ≤ℤ (row_at arcs k).cap)
 
-part_between : (b : Bool) (z c : ℤ) → pos 0 ≤ℤ z → z ≤ℤ c → (pos 0 ≤ℤ cond b c (pos 0)) × (cond b z (pos 0) ≤ℤ pos (positive_part c))
+part_between : (b : Bool) (z c : ℤ) → pos 0 ≤ℤ z → z ≤ℤ c → (pos 0 ≤ℤ cond b c (pos 0)) × (cond b z (pos 0) ≤ℤ pos (part_above_0 c))
 part_between b z c low high = (let most = below_part c in (grind (arith, ints), grind (arith, ints)))
 
 -- of the arcs that a test picks, the capacities come to at least 0, and the lower bounds to no more than all capacities
@@ -183,7 +183,7 @@ picked_between picks [] rows = (omega (arith, ints), omega (arith, ints))
 picked_between picks (a ∷ arcs) rows =
     let rest = picked_between picks arcs (λ k lt. rows (suc k) (omega arith)) in
     let here = part_between (picks a) a.low a.cap (rows 0 (omega arith)).0 (rows 0 (omega arith)).1 in
-    (omega (arith, ints, rest.0, here.0), omega (arith, ints, rest.1, here.1, sum_by-cons (λ (b : ArcRow). positive_part b.cap) a arcs))
+    (omega (arith, ints, rest.0, here.0), omega (arith, ints, rest.1, here.1, sum_by-cons (λ (b : ArcRow). part_above_0 b.cap) a arcs))
 
 leaving_between : (set : List Bool) (arcs : List ArcRow) → AreRows arcs → (pos 0 ≤ℤ sum_leaving set (λ a. a.cap) arcs) × (sum_leaving set (λ a. a.low) arcs ≤ℤ pos (cap_total arcs))
 leaving_between set arcs rows = rw (leaving_is set (λ a. a.cap) arcs, leaving_is set (λ a. a.low) arcs) (picked_between _ arcs rows)

@@ -19,7 +19,7 @@ use Rattle.augmentation.specs.Limits.{cap_sum_limit}
 use Rattle.residual_graph.specs.Residual.{IsPseudoflow, IsRow, IsWithinRow, row_at, number_at}
 use Rattle.augmentation.specs.Nodes.{held}
 use Rattle.tracked.specs.Touched.{NameChanges}
-use Rattle.augmentation.specs.Push.{AreSmall, AreSupplies, IsExcess, at_node, cap_total}
+use Rattle.augmentation.specs.Push.{AreSmall, AreSupplies, IsExcess, only_at, cap_total}
 use Rattle.flow_solver.specs.Balance.{IsCarried, IsRaised, IsWrappedCost, IsWrappedExcess, gain}
 use Rattle.flow_solver.proofs.ExcessLemmas.{AreWithinCaps, at_zero, caps_of_flow, flow_bounds, small_within}
 use Rattle.flow_solver.proofs.InstanceLemmas.{caps_of_instance, flow_of_instance, supplies_of_instance}
@@ -38,7 +38,7 @@ pub IsRaised-put : (u : ℕ) (before after z : ℤ) (e : List ℤ) → u < lengt
 IsRaised-put u before after z e u_in is = record {
   same_length = length-set e u z;
   by_node = λ numbers held v. (elim (cases_eq v u) [
-    | inl same ↦ subst (λ (q : ℕ). number_at (slice_set e u z) q ≡ int_wrap w64 (numbers q +ℤ at_node u (after -ℤ before) q)) (sym same)
+    | inl same ↦ subst (λ (q : ℕ). number_at (slice_set e u z) q ≡ int_wrap w64 (numbers q +ℤ only_at u (after -ℤ before) q)) (sym same)
         (get_or-set_same e u z (pos 0) u_in ∙ is ∙ ap (λ (n : ℤ). int_wrap w64 (n +ℤ (after -ℤ before))) (held u)
         ∙ int_wrap-add_left w64 (numbers u) (after -ℤ before) ∙ ap (λ (n : ℤ). int_wrap w64 (numbers u +ℤ n)) (sym (at_same u (after -ℤ before))))
     | inr ne ↦ get_or-set_other e u v z (pos 0) ne ∙ held v
@@ -46,15 +46,15 @@ IsRaised-put u before after z e u_in is = record {
   ]);
 }
 
-at_node-sub : (u : ℕ) (m n : ℤ) (v : ℕ) → at_node u (m -ℤ n) v ≡ at_node u m v -ℤ at_node u n v
-at_node-sub u m n v = grind (arith, ints)
+only_at-sub : (u : ℕ) (m n : ℤ) (v : ℕ) → only_at u (m -ℤ n) v ≡ only_at u m v -ℤ only_at u n v
+only_at-sub u m n v = grind (arith, ints)
 
 -- what is carried over is taken from the tail and added to the head
 pub IsCarried-both : (row : ArcRow) (before after : ℤ) (e g f : List ℤ) → IsRaised row.tail after before e g → IsRaised row.head before after g f → IsCarried row before after e f
 IsCarried-both row before after e g f first second = record {
   same_length = second.same_length ∙ first.same_length;
-  by_node = λ numbers held v. second.by_node (λ w. numbers w +ℤ at_node row.tail (before -ℤ after) w) (first.by_node numbers held) v
-      ∙ ap (int_wrap w64) (let there = at_node-sub row.tail before after v in let back = at_node-sub row.tail after before v in omega (arith, ints));
+  by_node = λ numbers held v. second.by_node (λ w. numbers w +ℤ only_at row.tail (before -ℤ after) w) (first.by_node numbers held) v
+      ∙ ap (int_wrap w64) (let there = only_at-sub row.tail before after v in let back = only_at-sub row.tail after before v in omega (arith, ints));
 }
 
 -- ---- sums at one place
@@ -78,13 +78,13 @@ flow_sum-push g _ _ row y sized = absurd (omega arith)
 
 -- what a node of an arc sends and receives
 abbrev leaves : ℕ → ArcRow → ℤ → ℤ
-leaves v row m = at_node row.tail m v
+leaves v row m = only_at row.tail m v
 
 abbrev comes : ℕ → ArcRow → ℤ → ℤ
-comes v row m = at_node row.head m v
+comes v row m = only_at row.head m v
 
 gain-sub : (row : ArcRow) (m n : ℤ) (v : ℕ) → gain row (m -ℤ n) v ≡ gain row m v -ℤ gain row n v
-gain-sub row m n v = (let out = at_node-sub row.tail m n v in let in_ = at_node-sub row.head m n v in omega (arith, ints))
+gain-sub row m n v = (let out = only_at-sub row.tail m n v in let in_ = only_at-sub row.head m n v in omega (arith, ints))
 
 gain-zero : (row : ArcRow) (v : ℕ) → gain row (pos 0) v ≡ pos 0
 gain-zero row v = (let out = at_zero row.tail v in let in_ = at_zero row.head v in omega (arith, ints))
@@ -106,8 +106,8 @@ pub net-set_row : (arcs : List ArcRow) (x : List ℤ) (k v : ℕ) (row : ArcRow)
 net-set_row arcs x k v row lt sized tail head =
     let out = flow_sum-set_row (leaves v) arcs x k row lt sized in
     let in_ = flow_sum-set_row (comes v) arcs x k row lt sized in
-    let same_out = ap (λ (u : ℕ). at_node u (number_at x k) v) tail in
-    let same_in = ap (λ (u : ℕ). at_node u (number_at x k) v) head in
+    let same_out = ap (λ (u : ℕ). only_at u (number_at x k) v) tail in
+    let same_in = ap (λ (u : ℕ). only_at u (number_at x k) v) head in
     omega (arith, ints)
 
 -- the flow of one arc changes
@@ -133,7 +133,7 @@ excess_first arcs supply x e f row y sized carried is v =
     ∙ ap (int_wrap w64) (let more = net-push arcs x row v y sized in let all = gain-sub row (pos 0) y v in let none = gain-zero row v in omega (arith, ints))
 
 -- one node has another supply
-pub excess_supplied : (arcs : List ArcRow) (supply supply' : ℕ → ℤ) (x e f : List ℤ) (u : ℕ) (before after : ℤ) → ((v : ℕ) → supply' v ≡ supply v +ℤ at_node u (after -ℤ before) v) → IsRaised u before after e f → IsWrappedExcess arcs supply x e → IsWrappedExcess arcs supply' x f
+pub excess_supplied : (arcs : List ArcRow) (supply supply' : ℕ → ℤ) (x e f : List ℤ) (u : ℕ) (before after : ℤ) → ((v : ℕ) → supply' v ≡ supply v +ℤ only_at u (after -ℤ before) v) → IsRaised u before after e f → IsWrappedExcess arcs supply x e → IsWrappedExcess arcs supply' x f
 excess_supplied arcs supply supply' x e f u before after other raised is v =
     raised.by_node (λ w. supply w -ℤ net arcs x w) is v
     ∙ ap (int_wrap w64) (let here = other v in omega (arith, ints))

@@ -15,7 +15,7 @@ use Rattle.network.specs.Edited.{with_last}
 use Rattle.network.specs.Instance.{Demand, Supplies, Terminals, Instance, IsLawful, ArcFits, DemandFits, at_node, kind_of, numbered_flow, reduced, reduced_arcs, reduced_supply, with_supply}
 use Rattle.network.proofs.Reduction.{reduced_ends}
 use Rattle.residual_graph.specs.Residual.{number_at, row_at}
-use Rattle.augmentation.specs.Push.{IsExcess, IsTransfer, at_node as at_one, left}
+use Rattle.augmentation.specs.Push.{IsExcess, IsTransfer, only_at as at_one, left}
 use Rattle.augmentation.specs.Nodes.{table, held}
 use Rattle.flow_solver.specs.Edit.{IsNearest}
 use Rattle.flow_solver.specs.TablesView.{flow_index, supplies_in}

@@ -16,7 +16,7 @@ use Rattle.residual_graph.specs.Limits.{entry_limit, row_limit}
 use Rattle.augmentation.specs.Limits.{cap_sum_limit, supply_limit}
 use Rattle.shortest_paths.specs.Limits.{label_floor}
 use Rattle.residual_graph.specs.Residual.{IsRow, IsPseudoflow, IsReducedCostOptimal, ArePotentials, number_at, row_at}
-use Rattle.augmentation.specs.Push.{AreSupplies, positive_part, cap_total}
+use Rattle.augmentation.specs.Push.{AreSupplies, part_above_0, cap_total}
 use Rattle.augmentation.specs.Nodes.{held, IsIdleEntry}
 use Rattle.residual_graph.proofs.NodeNumbers.{IsNodeOf, is_node_or_not}
 use Rattle.augmentation.proofs.NodeLemmas.{held_node, held_other}
@@ -48,7 +48,7 @@ few_entries I lawful = omega (arith, lawful.nodes.1)
 
 -- ---- capacities and supplies
 
-part_small : (z : ℤ) → z ≤ℤ pos 1000000000 → positive_part z ≤ 1000000000
+part_small : (z : ℤ) → z ≤ℤ pos 1000000000 → part_above_0 z ≤ 1000000000
 part_small (pos n) h = omega (arith, ints, h)
 part_small (negsuc n) h = omega arith
 
@@ -56,10 +56,10 @@ caps_small : (n : ℕ) (D : Demand) (arcs : List ArcRow) → AllByRecursion (λ 
 caps_small n D [] keeps = omega arith
 caps_small n D (a ∷ arcs) keeps =
     let cap : a.cap ≤ℤ pos 1000000000 = keeps.0.0.limit in
-    omega (arith, part_small a.cap cap, caps_small n D arcs keeps.1, sum_by-cons (λ (b : ArcRow). positive_part b.cap) a arcs)
+    omega (arith, part_small a.cap cap, caps_small n D arcs keeps.1, sum_by-cons (λ (b : ArcRow). part_above_0 b.cap) a arcs)
 
 caps_reduced : (n : ℕ) (D : Demand) (arcs : List ArcRow) → AllByRecursion (λ arc. IsLawfulRow n arc × ArcFits D arc) arcs → cap_total (reduced_arcs D arcs) ≤ 100000000000000 + 1000000000 * length arcs
-caps_reduced n (Terminals source sink) arcs keeps = omega (arith, caps_small n (Terminals source sink) arcs keeps, sum_by-cons (λ (b : ArcRow). positive_part b.cap) (return_arc source sink) arcs)
+caps_reduced n (Terminals source sink) arcs keeps = omega (arith, caps_small n (Terminals source sink) arcs keeps, sum_by-cons (λ (b : ArcRow). part_above_0 b.cap) (return_arc source sink) arcs)
 caps_reduced n D arcs keeps = omega (arith, caps_small n D arcs keeps)
 
 pub caps_of_instance : (I : Instance) → IsLawful I → cap_total (reduced I).arcs ≤ cap_sum_limit

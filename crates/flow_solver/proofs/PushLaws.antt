@@ -6,7 +6,7 @@ use Rattle.dimacs_text.specs.declared.problem.ArcRow.{ArcRow}
 use Rattle.network.specs.Flow.{MinCost, IsNode, AllEndsAreNodes, IsLegalFlow, AllWithinBounds, nodes_sum, net, excess, total_excess}
 use Rattle.network.specs.Flow as flow
 use Rattle.residual_graph.specs.Residual.{number_at}
-use Rattle.augmentation.specs.Push.{IsExcess, IsPush, Pushes, positive_part, left}
+use Rattle.augmentation.specs.Push.{IsExcess, IsPush, Pushes, part_above_0, left}
 use Rattle.augmentation.specs.Cut.{lack}
 use Rattle.augmentation.specs.Nodes.{held}
 use Rattle.augmentation.proofs.CutLemmas.{none_above, lack-none}
@@ -45,20 +45,20 @@ module _ (I : MinCost) (x e : List ℤ) (is : IsExcess I.arcs (held I.nodes I.su
     conserved = λ v node. omega (arith, ints, excess_at v node, none_above e none v, lack-none e no_lack v);
   }
 
-part_is : (z : ℤ) → pos (positive_part z) ≡ flow.positive_part z
+part_is : (z : ℤ) → pos (part_above_0 z) ≡ flow.positive_part z
 part_is (pos n) = refl
 part_is (negsuc n) = refl
 
 left_nodes : (n : ℕ) (e : List ℤ) (g : ℕ → ℤ) → length e ≡ n → ((v : ℕ) → v < n → g (suc v) ≡ flow.positive_part (number_at e v)) → pos (left e) ≡ nodes_sum n g
 left_nodes zero [] g sized same = refl
 left_nodes (suc n) (z ∷ e) g sized same =
-    omega (arith, ints, nodes_sum-first n g, same 0 (omega arith), part_is z, sum_by-cons positive_part z e, left_nodes n e (λ v. g (suc v)) (omega arith) (λ v lt. same (suc v) (omega arith)))
+    omega (arith, ints, nodes_sum-first n g, same 0 (omega arith), part_is z, sum_by-cons part_above_0 z e, left_nodes n e (λ v. g (suc v)) (omega arith) (λ v lt. same (suc v) (omega arith)))
 left_nodes _ _ g sized same = absurd (omega arith)
 
 pub left_is : (I : MinCost) (x e : List ℤ) → AllEndsAreNodes I → IsExcess I.arcs (held I.nodes I.supply) x e → length e ≡ suc I.nodes → pos (left e) ≡ total_excess I x
 left_is I x [] ends is sized = absurd (omega arith)
 left_is I x (z ∷ e) ends is sized =
     let first : z ≡ pos 0 = omega (arith, ints, is 0, net-none I.nodes I.arcs x 0 ends (λ h. omega (arith, h.0))) in
-    let none : positive_part z ≡ 0 = ap positive_part first in
+    let none : part_above_0 z ≡ 0 = ap part_above_0 first in
     let rest = left_nodes I.nodes e (λ v. flow.positive_part (excess I x v)) (omega arith) (λ v lt. ap flow.positive_part (sym (excess_at I x (z ∷ e) is (suc v) (omega arith, omega arith)))) in
-    omega (arith, ints, none, rest, sum_by-cons positive_part z e)
+    omega (arith, ints, none, rest, sum_by-cons part_above_0 z e)

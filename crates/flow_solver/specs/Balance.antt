@@ -8,7 +8,7 @@ use Rattle.network.specs.Instance.{Instance, reduced}
 use Rattle.flow_solver.specs.declared.balance.Balance.{Balance}
 use Rattle.tracked.specs.Tracked.{TrackedView}
 use Rattle.augmentation.specs.Nodes.{held}
-use Rattle.augmentation.specs.Push.{at_node}
+use Rattle.augmentation.specs.Push.{only_at}
 
 -- e holds the numbers as they wrap
 abbrev pub AreWrapped : (ℕ → ℤ) → List ℤ → Type 0
@@ -25,11 +25,11 @@ IsWrappedCost arcs x cost = cost ≡ int_wrap w128 (total_cost arcs x)
 -- e became f where one node's number gained what `after` exceeds `before` by
 pub record IsRaised (u : ℕ) (before after : ℤ) (e f : List ℤ) : Type 0 where
   pub same_length : length f ≡ length e
-  pub by_node : (numbers : ℕ → ℤ) → AreWrapped numbers e → AreWrapped (λ v. numbers v +ℤ at_node u (after -ℤ before) v) f
+  pub by_node : (numbers : ℕ → ℤ) → AreWrapped numbers e → AreWrapped (λ v. numbers v +ℤ only_at u (after -ℤ before) v) f
 
 -- what node v gains where m more flows along an arc
 abbrev pub gain : ArcRow → ℤ → ℕ → ℤ
-gain row m v = at_node row.head m v -ℤ at_node row.tail m v
+gain row m v = only_at row.head m v -ℤ only_at row.tail m v
 
 -- e became f where the flow of an arc went from `before` to `after`
 pub record IsCarried (row : ArcRow) (before after : ℤ) (e f : List ℤ) : Type 0 where

@@ -7,7 +7,7 @@ ghost use Rattle.tracked.specs.Tracked.{IsWritten};
 ghost use Rattle.flow_solver.specs.Potentials.{AreAsTold, AreGreatestIn, KeepStep};
 ghost use Rattle.residual_graph.specs.Graph.{HasEntries};
 ghost use Rattle.residual_graph.specs.Residual.{IsPseudoflow};
-ghost use Rattle.augmentation.specs.Cut.{IsChosenSet, IsParted, IsSide, IsSideOfCut};
+ghost use Rattle.augmentation.specs.Cut.{IsChosenSet, IsParted, AreOnSide, IsSideOfCut};
 ghost use Rattle.augmentation.specs.Held.{IsHeldIn};
 ghost use Rattle.residual_graph.specs.Walk.{AreRowsOf};
 ghost use Rattle.residual_graph.specs.declared.side.Side.TheVariants.{Ahead};
@@ -40,7 +40,7 @@ fn push_and_raise_all(
     ensures pushed { ArePushes graph.now.rows result.count
         flow.old.entries excess.old flow.new.entries excess.new }
     ensures parted { IsParted graph.now.rows flow.new.entries excess.new }
-    ensures marked { IsTrue result.are_marked → IsSide Ahead graph.now.rows flow.new.entries excess.new scratch.new.marks }
+    ensures marked { IsTrue result.are_marked → AreOnSide Ahead graph.now.rows flow.new.entries excess.new scratch.new.marks }
     ensures scratch_in { length scratch.new.potentials ≡ length excess.new }
     ensures held { IsHeldIn graph.now.rows flow.new.whole scratch.new.held }
     ensures step { KeepStep potentials.new scratch.new }
@@ -84,7 +84,7 @@ fn push_and_raise(
     ensures pushed { ArePushes graph.now.rows result.count
         flow.old.entries excess.old flow.new.entries excess.new }
     ensures parted { IsParted graph.now.rows flow.new.entries excess.new }
-    ensures marked { IsTrue result.are_marked → IsSide Ahead graph.now.rows flow.new.entries excess.new scratch.new.marks }
+    ensures marked { IsTrue result.are_marked → AreOnSide Ahead graph.now.rows flow.new.entries excess.new scratch.new.marks }
     ensures scratch_in { length scratch.new.potentials ≡ length excess.new }
     ensures held { IsHeldIn graph.now.rows flow.new.whole scratch.new.held }
     ensures step { KeepStep potentials.new scratch.new }

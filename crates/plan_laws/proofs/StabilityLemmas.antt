@@ -12,7 +12,7 @@ use Rattle.dimacs_text.specs.declared.command.Edit.TheVariants.{Cap, Low, Cost, 
 use Rattle.network.specs.Flow.{MinCost, IsNode, AllEndsAreNodes, IsLegalFlow, net, nodes_sum, excess, total_excess, positive_part}
 use Rattle.network.specs.Flow.{AllWithinBounds}
 use Rattle.network.specs.Instance.{Demand, Supplies, Terminals, Sides, Instance, IsLawful, IsLegal, arc_at, kind_of, is_marked, numbered_flow, reduced, reduced_arcs, reduced_flow, return_arc}
-use Rattle.network.specs.Instance.{at_node as at_potential}
+use Rattle.network.specs.Instance.{at_node}
 use Rattle.network.specs.Edited.{arc_of, units, units_all}
 use Rattle.network.proofs.Following.{follows}
 use Rattle.dimacs_text.specs.declared.problem.Kind.{Kind}
@@ -23,7 +23,7 @@ use Rattle.residual_graph.specs.declared.residual.ResidualArc.{ResidualArc}
 use Rattle.residual_graph.specs.declared.residual.Way.{Way}
 use Rattle.residual_graph.specs.declared.residual.Way.TheVariants.{Forward, Backward}
 use Rattle.residual_graph.specs.Residual.{number_at, row_at, start_at}
-use Rattle.augmentation.specs.Push.{IsPath, IsPush, IsShift, Pushes, at_node, moved, push_along}
+use Rattle.augmentation.specs.Push.{IsPath, IsPush, IsShift, Pushes, only_at, moved, push_along}
 use Rattle.augmentation.proofs.ChangeLemmas.{apart_of}
 use Rattle.augmentation.proofs.PushLemmas.{AreApart, IsShift-along, at_other, at_same, net-along}
 use Rattle.flow_solver.specs.declared.verdict.Verdict.{Verdict}
@@ -120,7 +120,7 @@ module _ (I : MinCost) (ends : AllEndsAreNodes I) (x y : List ℤ) (sized : leng
   along : y ≡ push_along push.hops push.amount x
   along = shift_is push.hops push.amount x y (push_along push.hops push.amount x) push.shift (IsShift-along I.arcs push.hops push.amount x sized apart)
 
-  excess_after : (v : ℕ) → excess I y v ≡ (excess I x v -ℤ at_node push.source push.amount v) +ℤ at_node push.target push.amount v
+  excess_after : (v : ℕ) → excess I y v ≡ (excess I x v -ℤ only_at push.source push.amount v) +ℤ only_at push.target push.amount v
   excess_after v =
       let after = net-along I.arcs push.hops push.amount x push.source push.target v push.path apart sized in
       let same : net I.arcs y v ≡ net I.arcs (push_along push.hops push.amount x) v = ap (λ (z : List ℤ). net I.arcs z v) along in
@@ -145,9 +145,9 @@ module _ (I : MinCost) (ends : AllEndsAreNodes I) (x y : List ℤ) (sized : leng
           at Backward both = both.1
 
   -- the part of a node falls by the amount at the source, and rises nowhere
-  part_falls : (v : ℕ) → (positive_part (excess I y v) +ℤ at_node push.source push.amount v) ≤ℤ positive_part (excess I x v)
+  part_falls : (v : ℕ) → (positive_part (excess I y v) +ℤ only_at push.source push.amount v) ≤ℤ positive_part (excess I x v)
   part_falls v = elim (cases_eq v push.source) [
-    | inl here ↦ subst (λ (u : ℕ). (positive_part (excess I y u) +ℤ at_node push.source push.amount u) ≤ℤ positive_part (excess I x u)) (sym here) (
+    | inl here ↦ subst (λ (u : ℕ). (positive_part (excess I y u) +ℤ only_at push.source push.amount u) ≤ℤ positive_part (excess I x u)) (sym here) (
         let after = excess_after push.source in
         let m = at_same push.source push.amount in
         let none = at_other push.target push.amount push.source differ in
@@ -155,7 +155,7 @@ module _ (I : MinCost) (ends : AllEndsAreNodes I) (x y : List ℤ) (sized : leng
         let f = (part_is (excess I y push.source)).0 (omega (arith, ints, push.in_excess, after, m, none)) in
         omega (arith, ints, e, f, after, m, none))
     | inr off ↦ (elim (cases_eq v push.target) [
-      | inl here ↦ subst (λ (u : ℕ). (positive_part (excess I y u) +ℤ at_node push.source push.amount u) ≤ℤ positive_part (excess I x u)) (sym here) (
+      | inl here ↦ subst (λ (u : ℕ). (positive_part (excess I y u) +ℤ only_at push.source push.amount u) ≤ℤ positive_part (excess I x u)) (sym here) (
           let after = excess_after push.target in
           let m = at_same push.target push.amount in
           let none = at_other push.source push.amount push.target (λ e. differ (sym e)) in
@@ -175,8 +175,8 @@ module _ (I : MinCost) (ends : AllEndsAreNodes I) (x y : List ℤ) (sized : leng
   -- the total excess falls by the amount
   total_falls : (total_excess I y +ℤ push.amount) ≤ℤ total_excess I x
   total_falls =
-      let le = nodes_sum-le I.nodes (λ v. positive_part (excess I y v) +ℤ at_node push.source push.amount v) (λ v. positive_part (excess I x v)) (λ v b. part_falls v) in
-      let split = nodes_sum-add I.nodes (λ v. positive_part (excess I y v)) (λ v. at_node push.source push.amount v) in
+      let le = nodes_sum-le I.nodes (λ v. positive_part (excess I y v) +ℤ only_at push.source push.amount v) (λ v. positive_part (excess I x v)) (λ v b. part_falls v) in
+      let split = nodes_sum-add I.nodes (λ v. positive_part (excess I y v)) (λ v. only_at push.source push.amount v) in
       let one = nodes_sum-one I.nodes push.source (λ v. push.amount) source_node.0 source_node.1 in
       omega (arith, ints, le, split, one)
 
@@ -306,11 +306,11 @@ pub moves_within : (m n : Moment) (edits : List Edit) (pushes k : ℕ) → IsWel
     → MovesWithin (total_excess (reduced m.instance) m.flow +ℤ pos (units_all m.instance edits)) k m n
 moves_within m n edits pushes k before after change left_out =
     let place = flow_index m.instance.demand k in
-    let kinds = kind_all m.instance n.instance edits (at_potential m.potentials) m.flow change.start change.made in
+    let kinds = kind_all m.instance n.instance edits (at_node m.potentials) m.flow change.start change.made in
     let same : flow_index n.instance.demand k ≡ place = sym (place_is n.instance.demand k) ∙ ap (λ (t : Kind). place_in t k) kinds ∙ place_is m.instance.demand k in
     let there = place_below m.instance.demand m.instance.arcs k left_out.arc.0 left_out.arc.1 in
     let others = All-weaker (λ edit. arc_of edit ≢ k) (λ edit. IsElsewhere (kind_of m.instance.demand) edit place) (λ edit other. other_place m.instance.demand edit k left_out.arc.0 other) edits left_out.unnamed in
-    let moves = edits_move m.instance n.instance edits (at_potential m.potentials) m.flow n.flow pushes place after.lawful change after.one_flow (omega (arith, there, before.one_flow)) others in
+    let moves = edits_move m.instance n.instance edits (at_node m.potentials) m.flow n.flow pushes place after.lawful change after.one_flow (omega (arith, there, before.one_flow)) others in
     let within : pos (unsigned_abs (number_at n.flow place -ℤ number_at m.flow place)) ≤ℤ (total_excess (reduced m.instance) m.flow +ℤ pos (units_all m.instance edits)) =
     omega (arith, ints, moves, total_positive (reduced n.instance) n.flow) in
     subst (λ (j : ℕ). pos (unsigned_abs (number_at n.flow j -ℤ number_at m.flow place)) ≤ℤ (total_excess (reduced m.instance) m.flow +ℤ pos (units_all m.instance edits))) (sym same) within
@@ -358,5 +358,5 @@ as_group I J edit potential x y n change = record {
 pub plan_moves : (m n : Moment) (edit : Edit) (pushes k : ℕ) (w : ℤ) → IsAnswered m → IsAnswered n → m.verdict ≡ Best w → ChangesTo edit m n pushes → IsLeftOut m.instance (edit ∷ []) k
     → MovesWithin (pos (units m.instance edit)) k m n
 plan_moves m n edit pushes k w before after best change left_out =
-    let moves = plans_move m n (edit ∷ []) pushes k w before after best (as_group m.instance n.instance edit (at_potential m.potentials) m.flow n.flow pushes change) left_out in
+    let moves = plans_move m n (edit ∷ []) pushes k w before after best (as_group m.instance n.instance edit (at_node m.potentials) m.flow n.flow pushes change) left_out in
     subst (λ (u : ℕ). MovesWithin (pos u) k m n) (units_one m.instance edit) moves

@@ -3,7 +3,7 @@ use Rattle.std.proofs.lemmas.Int.{to_z-of_z}
 use Rattle.std.proofs.lemmas.List.{get_or_read}
 use Rattle.residual_graph.specs.Residual.{number_at}
 use Rattle.augmentation.specs.Changes.{IsNearer}
-use Rattle.augmentation.specs.Push.{positive_part}
+use Rattle.augmentation.specs.Push.{part_above_0}
 use Rattle.tracked.specs.Marks.{in_set}
 use Rattle.tracked.specs.NodeLists.{node_at}
 use Rattle.augmentation.proofs.ExchangeLemmas.{AreGiven, AreGiven-all, AreGiven-more, AreGiven-none}
@@ -27,7 +27,7 @@ loop-place-preserved c = λ before is.
     let fits_before : SFits w64 c.index.result.now = search rules in
     let fits_now : SFits w64 (number_at now v) = search rules in
     let before_is : to_z w64 (of_z w64 c.index.result.now) ≡ number_at before v = to_z-of_z w64 c.index.result.now fits_before ∙ get_or_read journal.before.items v c.index.result.now in_before c.index.ensures (pos 0) ∙ is.before v noted in
-    let gave : IsNearer (number_at before v) (number_at now v) × (m + positive_part (number_at now v) ≡ positive_part (number_at before v)) = rw (sym before_is) (rw (sym (to_z-of_z w64 (number_at now v) fits_now)) c.in_ok-given.ensures) in
+    let gave : IsNearer (number_at before v) (number_at now v) × (m + part_above_0 (number_at now v) ≡ part_above_0 (number_at before v)) = rw (sym before_is) (rw (sym (to_z-of_z w64 (number_at now v) fits_now)) c.in_ok-given.ensures) in
     let units : n + m ≡ c.in_ok-units.units = omega (arith, c.in_ok-units.ensures.1) in
     subst (AreGiven places (j + 1) before now) units (AreGiven-more places j before now n m c.places-place-items.ensures.apart c.loop-place-test.true there gave.0 gave.1 (c.loop-place.invariant before is)))
 

@@ -3,13 +3,13 @@ use Rattle.residual_graph.specs.Residual.{number_at}
 use Rattle.shortest_paths.specs.declared.predecessor.Predecessor.{Predecessor}
 use Rattle.tracked.specs.Marks.{in_set}
 use Rattle.augmentation.specs.Certificate.{AreInRange}
-use Rattle.augmentation.specs.Held.{AreTestedThere, IsHeld, IsInRange}
+use Rattle.augmentation.specs.Held.{AreTestedThere, AreHeld, IsInLabelRange}
 use Rattle.augmentation.proofs.HeldLemmas.{in_range_still, tested_whole}
 use Rattle.augmentation.proofs.held.holds.Goals as goal
 use Rattle.augmentation.proofs.held.holds.Goals.{After-rehung-rehung}
 
 -- nothing is lost
-held : (c : After-rehung-rehung) → IsHeld c.args.graph.now.rows c.args.flow.now.whole c.args.tree.now.held.labels c.args.tree.now.held.predecessors c.args.tree.now.held.noted c.args.tree.now.held.beside
+held : (c : After-rehung-rehung) → AreHeld c.args.graph.now.rows c.args.flow.now.whole c.args.tree.now.held.labels c.args.tree.now.held.predecessors c.args.tree.now.held.noted c.args.tree.now.held.beside
 held c = c.requires.held (sym c.is_lost.ensures ∙ c.if-is_lost.false)
 
 pub hold_there-requires-clause-labels : goal.hold_there-requires-clause-labels
@@ -27,7 +27,7 @@ returns c = λ yes.
     let relabelled = c.relabelled-relabelled.result.now in
     let rehung = c.rehung-rehung.result.now in
     let in_range : AreInRange tree.labels = in_range_still tree.held.labels tree.labels relabelled (held a).in_range (λ v out. c.relabelled-relabelled.ensures.elsewhere v out (pos 0))
-    (subst (λ (q : List ℤ). (v : ℕ) → v < length q → in_set relabelled v ≡ true → IsInRange (number_at q v)) c.labels-labels.ensures (c.are_in_range_at.ensures c.if-not-are_in_range_at.false)) in
+    (subst (λ (q : List ℤ). (v : ℕ) → v < length q → in_set relabelled v ≡ true → IsInLabelRange (number_at q v)) c.labels-labels.ensures (c.are_in_range_at.ensures c.if-not-are_in_range_at.false)) in
     let there : AreTestedThere rows x tree.labels tree.predecessors tree.held.noted tree.held.beside c.written.result.now rehung =
     subst (λ (y : List ℤ). AreTestedThere rows y tree.labels tree.predecessors tree.held.noted tree.held.beside c.written.result.now rehung) c.entries.ensures
     (subst (λ (q : List ℤ). AreTestedThere rows c.entries.result.now q tree.predecessors tree.held.noted tree.held.beside c.written.result.now rehung) c.labels-labels.ensures
