@@ -17,7 +17,11 @@ use Rattle.shortest_paths.specs.Search.{HasFound, IsForest, IsReached}
 use Rattle.shortest_paths.proofs.StepLemmas.{forest_of}
 use Rattle.network.specs.Flow.{net}
 use Rattle.augmentation.specs.Push.{IsExcess, IsPath, IsPush, Pushes, nodes_on, before, hop_to, path_to, root_to, HasRoom, IsTight, IsTightArc, IsTransfer, IsAugmented, ArePushes, push_along, only_at, AreSmall, one_if, part_above_0, left, lack}
-use Rattle.augmentation.specs.Pseudoflow.{IsCertifiedPseudoflow}
+use Rattle.augmentation.specs.Pseudoflow.{IsCertifiedIn, IsCertifiedPseudoflow}
+use Rattle.augmentation.specs.Pushes.{HavePushed}
+use Rattle.augmentation.specs.ScratchView.{ScratchView}
+use Rattle.tracked.specs.Tracked.{TrackedView}
+use Rattle.tracked.proofs.TrackedLemmas.{IsWritten-same, IsWritten-trans}
 use Rattle.residual_graph.specs.declared.residual.ResidualArc.{ResidualArc}
 use Rattle.augmentation.proofs.TurnedRows.{number_at-neg, left-neg}
 use Rattle.augmentation.proofs.PathLemmas.{IsOnward, hops_tight, path_onward, root_depth}
@@ -210,6 +214,18 @@ ArePushes-more {arcs} {m} {n} {x} {e} {y} {f} {z} {g} first rest =
           (kept.0 ∙ still.0, kept.1 ∙ still.1));
       balanced = λ v h. rest.balanced v (first.balanced v h);
     }
+
+pub HavePushed-none : {g : GraphView} {x : TrackedView ℤ} {e : List ℤ} {s : ScratchView} → IsCertifiedIn g x e s → HavePushed g 0 x x e e s s
+HavePushed-none {g} {x} {e} {s} state = record { written = IsWritten-same x; state = state; held = refl; pushes = ArePushes-none g.rows x.entries e }
+
+-- between the two only the scratch may change, and keeps the labels that are held
+pub HavePushed-more : {g : GraphView} {m n : ℕ} {x y z : TrackedView ℤ} {e f h : List ℤ} {s t u v : ScratchView} → HavePushed g m x y e f s t → HavePushed g n y z f h u v → u.held ≡ t.held → HavePushed g (m + n) x z e h s v
+HavePushed-more {g} {m} {n} {x} {y} {z} {e} {f} {h} {s} {t} {u} {v} first rest kept = record {
+  written = IsWritten-trans x y z first.written rest.written;
+  state = rest.state;
+  held = rest.held ∙ kept ∙ first.held;
+  pushes = ArePushes-more first.pushes rest.pushes;
+}
 
 -- ---- a node of a forest
 

@@ -8,9 +8,12 @@ use Rattle.residual_graph.specs.declared.side.Side.TheVariants.{Ahead, Behind}
 use Rattle.augmentation.specs.Marked.{MarkedView}
 use Rattle.augmentation.specs.Push.{left, part_above_0}
 pub use Rattle.augmentation.specs.Push.{lack}
+use Rattle.augmentation.specs.ScratchView.{ScratchView}
+use Rattle.residual_graph.specs.Graph.{GraphView}
 use Rattle.residual_graph.specs.Residual.{number_at, row_at, start_of, end_of, IsResidual}
 use Rattle.residual_graph.specs.Side.{IsRoot}
 use Rattle.tracked.specs.Marks.{in_set}
+use Rattle.tracked.specs.Tracked.{TrackedView}
 use Rattle.tracked.specs.NodeLists.{node_at}
 
 -- the sum of f over the nodes of a set
@@ -91,6 +94,10 @@ pub record AreOnSide (side : Side) (arcs : List ArcRow) (x e : List ℤ) (set : 
   pub closed : IsClosed side arcs x set
   pub holds : HoldsRoots side e set
   pub least : (other : List Bool) → IsClosed side arcs x other → HoldsRoots side e other → (v : ℕ) → in_set set v ≡ true → in_set other v ≡ true
+
+-- where it is told that the scratch marks the nodes in excess and all that they reach, it does
+abbrev pub TellsMarks : Bool → GraphView → TrackedView ℤ → List ℤ → ScratchView → Type 0
+TellsMarks told g flow e s = IsTrue told → AreOnSide Ahead g.rows flow.entries e s.marks
 
 -- the nodes are in the set, where they have a mark
 abbrev pub AreNodesIn : List ℕ → List Bool → Type 0

@@ -2,7 +2,7 @@
 use Rattle.std.specs.Prelude.{◌≡◌, ℕ, ◌<◌, ◌⊎◌, ℤ, pos, neg_ℤ, ◌≤ℤ◌, List, Bool, true, false, length}
 use Rattle.dimacs_text.specs.declared.problem.ArcRow.{ArcRow}
 use Rattle.residual_graph.specs.declared.residual.Way.{Way}
-use Rattle.residual_graph.specs.Residual.{end_at, number_at, row_at, start_at}
+use Rattle.residual_graph.specs.Residual.{IsPseudoflow, end_at, number_at, row_at, start_at}
 use Rattle.shortest_paths.specs.declared.predecessor.Predecessor.{Predecessor}
 use Rattle.shortest_paths.specs.Limits.{label_floor}
 use Rattle.shortest_paths.specs.Predecessor.{IsTracedAt, arc_to, predecessor_at}
@@ -47,6 +47,12 @@ pub record HoldsAt (rows : List ArcRow) (x q : List ℤ) (t : List Predecessor) 
   pub along : (k : ℕ) (way : Way) → k < length rows → start_at rows k way ≡ v → HoldsAlong rows x q t k
   pub traced : IsTracedAt rows x q t v
 
+-- a flow of the graph, and for each node a label in range and a predecessor
+pub record IsLabelling (on : Labelled) : Type 0 where
+  pub flow : IsPseudoflow (length on.labels.now) on.graph.now.rows on.flow.now
+  pub labels : AreInRange on.labels.now
+  pub same_length : length on.predecessors.now ≡ length on.labels.now
+
 -- so it is of an arc and of a node under labels with predecessors
 abbrev pub HoldsAlongOn : Labelled → ℕ → Type 0
 HoldsAlongOn on k = HoldsAlong on.graph.now.rows on.flow.now on.labels.now on.predecessors.now k
@@ -64,6 +70,16 @@ HangsWellOn on k way = arc_to on.predecessors.now (end_at on.graph.now.rows k wa
 -- each marked place below n has this property
 abbrev pub AllMarked : List Bool → ℕ → (ℕ → Type 0) → Type 0
 AllMarked marks n P = (k : ℕ) → k < n → in_set marks k ≡ true → P k
+
+-- so it is of the marked arcs, or nodes, under labels with predecessors
+abbrev pub HoldAlongAllOn : Labelled → List Bool → Type 0
+HoldAlongAllOn on arcs = AllMarked arcs (length on.graph.now.rows) (HoldsAlongOn on)
+
+abbrev pub HoldAtAllOn : Labelled → List Bool → Type 0
+HoldAtAllOn on nodes = AllMarked nodes (length on.labels.now) (HoldsAtOn on)
+
+abbrev pub AreTracedAllOn : Labelled → List Bool → Type 0
+AreTracedAllOn on nodes = AllMarked nodes (length on.labels.now) (IsTracedOn on)
 
 -- the flow w became x, the labels p became q and the predecessors s became t, all at marked places alone; where a label changed, so did the predecessor
 pub record AreMarkedChanges (rows : List ArcRow) (w x p q : List ℤ) (s t : List Predecessor) (written relabelled rehung : List Bool) : Type 0 where

@@ -1,10 +1,15 @@
 pub mod Limits
 pub mod Nodes
 pub mod Push
+pub mod Path
 pub mod Pseudoflow
+pub mod Pushes
 pub mod Settle
 pub mod Marked
 pub mod Cut
+pub mod Side
+pub mod Found
+pub mod Trails
 pub mod Excess
 pub mod Scratch
 pub mod ScratchView

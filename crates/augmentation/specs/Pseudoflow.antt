@@ -4,6 +4,8 @@ use Rattle.residual_graph.specs.Graph.{GraphView, HasEntries}
 use Rattle.residual_graph.specs.Residual.{ArePotentials, IsReducedCostOptimal}
 use Rattle.shortest_paths.specs.Limits.{label_floor}
 use Rattle.augmentation.specs.Push.{AreSmall}
+use Rattle.augmentation.specs.ScratchView.{ScratchView}
+use Rattle.tracked.specs.Tracked.{TrackedView}
 
 -- the potentials p certify the flow x, which leaves the excess e at each node; each number is within its range
 pub record IsCertifiedPseudoflow (g : GraphView) (x p e : List ℤ) : Type 0 where
@@ -16,3 +18,10 @@ pub record IsCertifiedPseudoflow (g : GraphView) (x p e : List ℤ) : Type 0 whe
 pub record IsReady (g : GraphView) (x p e : List ℤ) : Type 0 where
   pub state : IsCertifiedPseudoflow g x p e
   pub in_range : ArePotentials (length p) label_floor p
+
+-- so it is of a table of flows and the potentials of the scratch
+abbrev pub IsCertifiedIn : GraphView → TrackedView ℤ → List ℤ → ScratchView → Type 0
+IsCertifiedIn g flow e s = IsCertifiedPseudoflow g flow.entries s.potentials e
+
+abbrev pub IsReadyIn : GraphView → TrackedView ℤ → List ℤ → ScratchView → Type 0
+IsReadyIn g flow e s = IsReady g flow.entries s.potentials e

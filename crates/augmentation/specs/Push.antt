@@ -11,6 +11,8 @@ use Rattle.residual_graph.specs.declared.residual.Way.TheVariants.{Forward, Back
 use Rattle.shortest_paths.specs.declared.predecessor.Predecessor.{Predecessor}
 use Rattle.residual_graph.specs.Residual.{number_at, row_at, start_at, end_at, cost_at, room_of}
 use Rattle.shortest_paths.specs.Predecessor.{arc_to, rank_at, way_to}
+use Rattle.residual_graph.specs.Graph.{GraphView}
+use Rattle.tracked.specs.Tracked.{TrackedView}
 
 -- e is what each node's supply exceeds the flow out of it by
 abbrev pub IsExcess : List ArcRow → (ℕ → ℤ) → List ℤ → List ℤ → Type 0
@@ -138,6 +140,10 @@ pub record ArePushes (arcs : List ArcRow) (n : ℕ) (x e y f : List ℤ) : Type 
   pub lacking : n + lack f ≤ lack e
   pub none : n ≡ 0 → (x ≡ y) × (e ≡ f)
   pub balanced : (v : ℕ) → number_at e v ≡ pos 0 → number_at f v ≡ pos 0
+
+-- so it is of tables of flows
+abbrev pub ArePushesOf : GraphView → ℕ → TrackedView ℤ → List ℤ → TrackedView ℤ → List ℤ → Type 0
+ArePushesOf g n x e y f = ArePushes g.rows n x.entries e y.entries f
 
 -- y and f are x and e after so much was pushed along the path to t as lies in excess where it begins, and lacks at t
 pub record IsAugmented (arcs : List ArcRow) (s : List Predecessor) (t : ℕ) (x e y f : List ℤ) : Type 0 where

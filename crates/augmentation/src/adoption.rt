@@ -1,19 +1,18 @@
 //! Proposals that are taken where they are certified, and pushes from there.
 
-ghost use Rattle.std.specs.Prelude.{◌≡◌, ℕ, ℤ, ◌<◌, ◌≤◌, List, length, IfNone, IfSome, IsTrue, MatchOption, false, true};
-ghost use Rattle.residual_graph.specs.Residual.{AreGreatest, IsPseudoflow};
-ghost use Rattle.residual_graph.specs.declared.side.Side.TheVariants.{Ahead};
-ghost use Rattle.tracked.specs.Journal.{IsJournal, IsSince};
+ghost use Rattle.std.specs.Prelude.{◌≡◌, ℕ, ℤ, ◌<◌, List, length, IfNone, IfSome, false, true};
+ghost use Rattle.residual_graph.specs.Residual.{IsPseudoflow};
+ghost use Rattle.tracked.specs.Journal.{IsSince};
 ghost use Rattle.tracked.specs.Marks.{in_set};
 ghost use Rattle.tracked.specs.Tracked.{IsWritten};
-ghost use Rattle.augmentation.specs.Adoption.{IsAsBefore, IsCertifiedBy};
+ghost use Rattle.augmentation.specs.Adoption.{IsAdopted};
 ghost use Rattle.augmentation.specs.Attempt.{IsAttemptFor};
-ghost use Rattle.augmentation.specs.Cut.{IsParted, AreOnSide};
-ghost use Rattle.augmentation.specs.Exchange.{IsExchange, IsJournalFor};
+ghost use Rattle.augmentation.specs.Cut.{IsParted, TellsMarks};
+ghost use Rattle.augmentation.specs.Exchange.{AreLed, IsBefore, IsJournalFor};
 ghost use Rattle.augmentation.specs.Held.{IsHeldIn};
-ghost use Rattle.augmentation.specs.Pseudoflow.{IsCertifiedPseudoflow, IsReady};
-ghost use Rattle.augmentation.specs.Push.{ArePushes, AreSmall};
-ghost use Rattle.augmentation.specs.Settle.{AreShortest};
+ghost use Rattle.augmentation.specs.Pseudoflow.{IsCertifiedIn, IsReadyIn};
+ghost use Rattle.augmentation.specs.Push.{ArePushesOf, AreSmall};
+ghost use Rattle.augmentation.specs.Settle.{TellsGreatest};
 
 use crate::attempt::Attempt;
 use crate::draft::Draft;
@@ -76,9 +75,8 @@ pub(crate) fn lead(
     ensures written { IsWritten flow.old flow.new }
     ensures same_flow { IfNone result (flow.new.entries ≡ flow.old.entries) }
     ensures same_excess { IfNone result (excess.new ≡ excess.old) }
-    ensures some { IfSome result (λ n. IsExchange (length excess.old) graph.now.rows n flow.old.entries excess.old flow.new.entries excess.new) }
-    ensures flow_since { IfSome result (λ n. IsSince attempt.new.draft.flow flow.old.entries flow.new.entries) }
-    ensures excess_since { IfSome result (λ n. IsSince attempt.new.draft.excess excess.old excess.new) }
+    ensures led { IfSome result (AreLed graph.now attempt.new.draft
+        flow.old.entries excess.old flow.new.entries excess.new) }
     ensures attempt { IsAttemptFor (length excess.old) attempt.new }
 {
     let draft = &mut attempt.draft;
@@ -109,8 +107,8 @@ pub(crate) fn take_back(flow: &mut Tracked<i64>, excess: &mut Excess, draft: &Dr
     requires excess_journal { IsJournalFor (length excess.old) draft.now.excess }
     requires excess_since { (es : List ℤ) × IsSince draft.now.excess es excess.old }
     ensures written { IsWritten flow.old flow.new }
-    ensures flow { (xs : List ℤ) → IsSince draft.now.flow xs flow.old.entries → flow.new.entries ≡ xs }
-    ensures excess { (es : List ℤ) → IsSince draft.now.excess es excess.old → excess.new ≡ es }
+    ensures flow { IsBefore draft.now.flow flow.old.entries flow.new.entries }
+    ensures excess { IsBefore draft.now.excess excess.old excess.new }
 {
     draft.flow.bring_back(&mut flow.entries);
     note_written(&mut flow.touched, &draft.flow);
@@ -130,12 +128,14 @@ pub fn adopt(
     excess: &mut Excess,
     scratch: &mut Scratch,
 ) -> Option<Pushed>
-    requires ready { IsReady graph.now flow.old.entries scratch.old.potentials excess.old }
+    requires ready { IsReadyIn graph.now flow.old excess.old scratch.old }
     requires held { IsHeldIn graph.now.rows flow.old.whole scratch.old.held }
     ensures flow_written { IsWritten flow.old flow.new }
-    ensures adopted { MatchOption result (IsAsBefore flow.old flow.new excess.old excess.new scratch.old.potentials scratch.new.potentials) (λ p. IsCertifiedBy graph.now p.count flow.old.entries excess.old flow.new.entries excess.new scratch.new.potentials) }
-    ensures greatest { IfSome result (λ p. IsTrue p.are_greatest → AreGreatest graph.now.rows flow.new.entries scratch.new.potentials) }
-    ensures unmarked { IfSome result (λ p. p.are_marked ≡ false) }
+    ensures same_flow { IfNone result (flow.new ≡ flow.old) }
+    ensures same_excess { IfNone result (excess.new ≡ excess.old) }
+    ensures same_potentials { IfNone result (scratch.new.potentials ≡ scratch.old.potentials) }
+    ensures adopted { IfSome result
+        (IsAdopted graph.now flow.old flow.new excess.old excess.new scratch.new) }
     ensures held { IsHeldIn graph.now.rows flow.new.whole scratch.new.held }
 {
     let attempt = &mut scratch.attempt;
@@ -165,12 +165,10 @@ fn take_proposed(
     excess: &mut Excess,
     scratch: &mut Scratch,
 ) -> Pushed
-    requires ready { IsReady graph.now flow.old.entries scratch.old.potentials excess.old }
+    requires ready { IsReadyIn graph.now flow.old excess.old scratch.old }
     requires held { IsHeldIn graph.now.rows flow.old.whole scratch.old.held }
     ensures flow_written { IsWritten flow.old flow.new }
-    ensures taken { IsCertifiedBy graph.now result.count flow.old.entries excess.old flow.new.entries excess.new scratch.new.potentials }
-    ensures greatest { IsTrue result.are_greatest → AreGreatest graph.now.rows flow.new.entries scratch.new.potentials }
-    ensures unmarked { result.are_marked ≡ false }
+    ensures taken { IsAdopted graph.now flow.old flow.new excess.old excess.new scratch.new result }
     ensures held { IsHeldIn graph.now.rows flow.new.whole scratch.new.held }
 {
     match adopt(graph, flow, excess, scratch) {
@@ -186,12 +184,10 @@ fn push_proposed(
     excess: &mut Excess,
     scratch: &mut Scratch,
 ) -> Pushed
-    requires ready { IsReady graph.now flow.old.entries scratch.old.potentials excess.old }
+    requires ready { IsReadyIn graph.now flow.old excess.old scratch.old }
     requires held { IsHeldIn graph.now.rows flow.old.whole scratch.old.held }
     ensures flow_written { IsWritten flow.old flow.new }
-    ensures taken { IsCertifiedBy graph.now result.count flow.old.entries excess.old flow.new.entries excess.new scratch.new.potentials }
-    ensures greatest { IsTrue result.are_greatest → AreGreatest graph.now.rows flow.new.entries scratch.new.potentials }
-    ensures unmarked { result.are_marked ≡ false }
+    ensures taken { IsAdopted graph.now flow.old flow.new excess.old excess.new scratch.new result }
     ensures held { IsHeldIn graph.now.rows flow.new.whole scratch.new.held }
 {
     if !scratch.attempt.proposals.is_fresh() && !excess.has_both() {
@@ -208,11 +204,11 @@ fn push_from_afar(
     excess: &mut Excess,
     scratch: &mut Scratch,
 ) -> u64
-    requires ready { IsReady graph.now flow.old.entries scratch.old.potentials excess.old }
+    requires ready { IsReadyIn graph.now flow.old excess.old scratch.old }
     requires held { IsHeldIn graph.now.rows flow.old.whole scratch.old.held }
     ensures flow_written { IsWritten flow.old flow.new }
-    ensures state { IsCertifiedPseudoflow graph.now flow.new.entries scratch.new.potentials excess.new }
-    ensures pushed { ArePushes graph.now.rows result flow.old.entries excess.old flow.new.entries excess.new }
+    ensures state { IsCertifiedIn graph.now flow.new excess.new scratch.new }
+    ensures pushed { ArePushesOf graph.now result flow.old excess.old flow.new excess.new }
     ensures parted { IsParted graph.now.rows flow.new.entries excess.new }
     ensures held { IsHeldIn graph.now.rows flow.new.whole scratch.new.held }
 {
@@ -234,14 +230,14 @@ pub fn push_all(
     excess: &mut Excess,
     scratch: &mut Scratch,
 ) -> Pushed
-    requires ready { IsReady graph.now flow.old.entries scratch.old.potentials excess.old }
+    requires ready { IsReadyIn graph.now flow.old excess.old scratch.old }
     requires held { IsHeldIn graph.now.rows flow.old.whole scratch.old.held }
     ensures flow_written { IsWritten flow.old flow.new }
-    ensures state { IsCertifiedPseudoflow graph.now flow.new.entries scratch.new.potentials excess.new }
-    ensures pushed { ArePushes graph.now.rows result.count flow.old.entries excess.old flow.new.entries excess.new }
+    ensures state { IsCertifiedIn graph.now flow.new excess.new scratch.new }
+    ensures pushed { ArePushesOf graph.now result.count flow.old excess.old flow.new excess.new }
     ensures parted { IsParted graph.now.rows flow.new.entries excess.new }
-    ensures greatest { IsTrue result.are_greatest → AreShortest graph.now.rows flow.new.entries scratch.new.potentials }
-    ensures marked { IsTrue result.are_marked → AreOnSide Ahead graph.now.rows flow.new.entries excess.new scratch.new.marks }
+    ensures greatest { TellsGreatest result.are_greatest graph.now flow.new scratch.new.potentials }
+    ensures marked { TellsMarks result.are_marked graph.now flow.new excess.new scratch.new }
     ensures held { IsHeldIn graph.now.rows flow.new.whole scratch.new.held }
 {
     let pushed = push_proposed(graph, flow, excess, scratch);

@@ -45,13 +45,6 @@ impl Attempt {
         })
     }
 
-    /// Notes that the arcs in these rows may have got another row or another flow: the next proposal looks at them.
-    pub fn note_all(&mut self, places: &[u32])
-        ensures { self.new ≡ self.old }
-    {
-        self.proposals.note_all(places);
-    }
-
     /// Proposes where to lead a flow, its excess and potentials: the first time from afar, else near the nodes out of
     /// balance.
     pub(crate) fn propose(

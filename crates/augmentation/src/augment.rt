@@ -2,42 +2,42 @@
 //! another push since has filled one of its arcs.
 
 ghost use Rattle.std.specs.Int.{w64};
-ghost use Rattle.std.specs.Prelude.{◌≡◌, ◌≢◌, ℤ, FitsSigned, IsTrue, false, length, pos, neg_ℤ, ◌≤ℤ◌, ◌<ℤ◌, ◌<◌};
-ghost use Rattle.residual_graph.specs.Residual.{IsPseudoflow, number_at};
-ghost use Rattle.shortest_paths.specs.Search.{AreHung, HavePaths, IsReached};
-ghost use Rattle.augmentation.specs.Push.{AreSmall, HasRoom, IsAugmented, IsTransfer, moved, path_to, push_along, root_to};
+ghost use Rattle.std.specs.Prelude.{◌≡◌, ◌≢◌, FitsSigned, IsTrue, false, length, pos, neg_ℤ, ◌≤ℤ◌, ◌<ℤ◌, ◌<◌};
+ghost use Rattle.residual_graph.specs.Residual.{number_at};
+ghost use Rattle.augmentation.specs.Path.{AugmentsOn, CanGiveOn, HasRoomOn, HavePathsOn, IsFlowFor, IsHungPath, IsMovedOn, root_on};
+ghost use Rattle.augmentation.specs.Push.{AreSmall, IsTransfer, moved};
 ghost use Rattle.tracked.specs.Tracked.{IsWritten};
 
 use residual_graph::{Graph, Way};
 use shortest_paths::Predecessor;
 use tracked::Tracked;
 
-/// Where the path to a node begins, and how much fits along it, at most `limit`: something, if each residual arc of the path
-/// is there.
-fn bottleneck(
-    graph: &Graph,
-    flow: &[i64],
-    predecessors: &[Predecessor],
-    target: usize,
-    limit: i64,
-) -> (usize, i64)
-    requires flow { IsPseudoflow (length predecessors.now) graph.now.rows flow.now }
-    requires hung { AreHung graph.now.rows predecessors.now }
-    requires reached { IsReached predecessors.now target }
+/// The path by which a search came to a node.
+#[derive(Clone, Copy)]
+pub(crate) struct Path<'a> {
+    pub graph: &'a Graph,
+    pub predecessors: &'a [Predecessor],
+    pub target: usize,
+}
+
+/// Where a path begins, and how much fits along it, at most `limit`: something, if each residual arc of the path is there.
+fn bottleneck(path: Path<'_>, flow: &[i64], limit: i64) -> (usize, i64)
+    requires path { IsHungPath path }
+    requires flow { IsFlowFor path flow.now }
     requires limit { pos 1 ≤ℤ limit }
-    ensures root { result.0 ≡ root_to graph.now.rows predecessors.now target }
-    ensures root_in { result.0 < length predecessors.now }
+    ensures root { result.0 ≡ root_on path.entry }
+    ensures root_in { result.0 < length path.entry.predecessors.now }
     ensures at_least_0 { pos 0 ≤ℤ result.1 }
-    ensures some { HavePaths graph.now.rows flow.now predecessors.now → pos 1 ≤ℤ result.1 }
+    ensures some { HavePathsOn path.entry flow.now → pos 1 ≤ℤ result.1 }
     ensures at_most { result.1 ≤ℤ limit }
-    ensures room { HasRoom graph.now.rows flow.now result.1 (path_to graph.now.rows predecessors.now target) }
+    ensures room { HasRoomOn path.entry flow.now result.1 }
 {
-    let mut node = target;
+    let mut node = path.target;
     let mut room = limit;
-    while predecessors[node].rank > 0 {
-        let hop = predecessors[node].arc();
+    while path.predecessors[node].rank > 0 {
+        let hop = path.predecessors[node].arc();
         let k = hop.arc as usize;
-        let row = graph.row(k);
+        let row = path.graph.row(k);
         room = room.min(hop.way.room(&row, flow[k]));
         node = hop.way.start(&row) as usize;
     }
@@ -45,26 +45,19 @@ fn bottleneck(
 }
 
 /// Where the path to a node in deficit begins, and how much can be pushed along it: 0 or less where that is nothing.
-fn amount_along(
-    graph: &Graph,
-    flow: &[i64],
-    excess: &[i64],
-    predecessors: &[Predecessor],
-    target: usize,
-) -> (usize, i64)
-    requires flow { IsPseudoflow (length predecessors.now) graph.now.rows flow.now }
-    requires hung { AreHung graph.now.rows predecessors.now }
-    requires excess_in { length excess.now ≡ length predecessors.now }
+fn amount_along(path: Path<'_>, flow: &[i64], excess: &[i64]) -> (usize, i64)
+    requires path { IsHungPath path }
+    requires flow { IsFlowFor path flow.now }
+    requires excess_in { length excess.now ≡ length path.predecessors.now }
     requires small { AreSmall excess.now }
-    requires reached { IsReached predecessors.now target }
-    requires some_deficit { number_at excess.now target <ℤ pos 0 }
-    ensures root { result.0 ≡ root_to graph.now.rows predecessors.now target }
-    ensures some { HavePaths graph.now.rows flow.now predecessors.now → pos 0 <ℤ number_at excess.now result.0 → pos 1 ≤ℤ result.1 }
+    requires some_deficit { number_at excess.now path.target <ℤ pos 0 }
+    ensures root { result.0 ≡ root_on path.entry }
+    ensures some { CanGiveOn path.entry flow.now excess.now → pos 1 ≤ℤ result.1 }
     ensures in_excess { result.1 ≤ℤ number_at excess.now result.0 }
-    ensures in_deficit { number_at excess.now target ≤ℤ neg_ℤ result.1 }
-    ensures room { HasRoom graph.now.rows flow.now result.1 (path_to graph.now.rows predecessors.now target) }
+    ensures in_deficit { number_at excess.now path.entry.target ≤ℤ neg_ℤ result.1 }
+    ensures room { HasRoomOn path.entry flow.now result.1 }
 {
-    let (root, room) = bottleneck(graph, flow, predecessors, target, -excess[target]);
+    let (root, room) = bottleneck(path, flow, -excess[path.target]);
     (root, room.min(excess[root]))
 }
 
@@ -79,30 +72,22 @@ fn shifted(flow: i64, way: Way, amount: i64) -> i64
     }
 }
 
-/// Moves `amount` along the path to a node.
+/// Moves `amount` along a path.
 #[inline(never)] // a name of its own in the program: `bench/count` counts its calls
-fn shift(
-    graph: &Graph,
-    flow: &mut Tracked<i64>,
-    predecessors: &[Predecessor],
-    target: usize,
-    amount: i64,
-)
-    requires flow { IsPseudoflow (length predecessors.now) graph.now.rows flow.old.entries }
-    requires hung { AreHung graph.now.rows predecessors.now }
-    requires reached { IsReached predecessors.now target }
+fn shift(path: Path<'_>, flow: &mut Tracked<i64>, amount: i64)
+    requires path { IsHungPath path }
+    requires flow { IsFlowFor path flow.old.entries }
     requires amount { pos 1 ≤ℤ amount }
-    requires room { HasRoom graph.now.rows flow.old.entries amount (path_to graph.now.rows predecessors.now target) }
-    ensures written { IsWritten flow.old flow.new }
-    ensures flow { flow.new.entries ≡ push_along (path_to graph.now.rows predecessors.now target) amount flow.old.entries }
+    requires room { HasRoomOn path flow.old.entries amount }
+    ensures { IsMovedOn path.entry amount flow.old flow.new }
 {
-    let mut node = target;
-    while predecessors[node].rank > 0 {
-        let hop = predecessors[node].arc();
+    let mut node = path.target;
+    while path.predecessors[node].rank > 0 {
+        let hop = path.predecessors[node].arc();
         let k = hop.arc as usize;
         let moved = shifted(flow.get(k), hop.way, amount);
         flow.set(k, moved);
-        node = graph.start(k, hop.way);
+        node = path.graph.start(k, hop.way);
     }
 }
 
@@ -122,29 +107,23 @@ fn transfer(excess: &mut [i64], source: usize, target: usize, amount: i64)
 }
 
 /// Pushes as much as can be pushed along the path to a node in deficit, if anything, and says whether it did.
-pub(crate) fn augment(
-    graph: &Graph,
-    flow: &mut Tracked<i64>,
-    excess: &mut [i64],
-    predecessors: &[Predecessor],
-    target: usize,
-) -> bool
-    requires flow { IsPseudoflow (length predecessors.now) graph.now.rows flow.old.entries }
-    requires hung { AreHung graph.now.rows predecessors.now }
-    requires excess_in { length excess.old ≡ length predecessors.now }
+pub(crate) fn augment(path: Path<'_>, flow: &mut Tracked<i64>, excess: &mut [i64]) -> bool
+    requires path { IsHungPath path }
+    requires flow { IsFlowFor path flow.old.entries }
+    requires excess_in { length excess.old ≡ length path.predecessors.now }
     requires small { AreSmall excess.old }
-    requires reached { IsReached predecessors.now target }
-    requires some_deficit { number_at excess.old target <ℤ pos 0 }
+    requires some_deficit { number_at excess.old path.target <ℤ pos 0 }
     ensures written { IsWritten flow.old flow.new }
-    ensures pushed { IsTrue result → IsAugmented graph.now.rows predecessors.now target flow.old.entries excess.old flow.new.entries excess.new }
-    ensures none { result ≡ false → (flow.new.entries ≡ flow.old.entries) × (excess.new ≡ excess.old) }
-    ensures some { HavePaths graph.now.rows flow.old.entries predecessors.now → pos 0 <ℤ number_at excess.old (root_to graph.now.rows predecessors.now target) → IsTrue result }
+    ensures pushed { IsTrue result → AugmentsOn path.entry flow.old excess.old flow.new excess.new }
+    ensures same_flow { result ≡ false → flow.new.entries ≡ flow.old.entries }
+    ensures same_excess { result ≡ false → excess.new ≡ excess.old }
+    ensures some { CanGiveOn path.entry flow.old.entries excess.old → IsTrue result }
 {
-    let (root, amount) = amount_along(graph, flow.entries(), excess, predecessors, target);
+    let (root, amount) = amount_along(path, flow.entries(), excess);
     if amount <= 0 {
         return false;
     }
-    shift(graph, flow, predecessors, target, amount);
-    transfer(excess, root, target, amount);
+    shift(path, flow, amount);
+    transfer(excess, root, path.target, amount);
     true
 }

@@ -1,8 +1,8 @@
 //! Whether potentials certify a flow.
 
-ghost use Rattle.std.specs.Prelude.{◌≡◌, ◌↔◌, ◌<◌, IsTrue, length};
-ghost use Rattle.residual_graph.specs.Residual.{IsPseudoflow, IsRow, IsWithinRow, number_at, row_at};
-ghost use Rattle.augmentation.specs.Certificate.{AreCertifying, AreInRange, IsWithinRows, IsNoneBelowAt, KeepsRow};
+ghost use Rattle.std.specs.Prelude.{◌↔◌, ◌<◌, IsTrue, length};
+ghost use Rattle.residual_graph.specs.Residual.{IsPseudoflow, IsRow, IsWithinRow};
+ghost use Rattle.augmentation.specs.Certificate.{AreCertifying, AreInRange, IsNoneBelowAt, IsWithinRows, KeepsArc, KeepsRow};
 
 use dimacs_text::ArcRow;
 use residual_graph::{Graph, Way};
@@ -53,7 +53,7 @@ pub(crate) fn keeps_arc(graph: &Graph, flow: &[i64], potentials: &[i64], k: usiz
     requires arc { k < length graph.now.rows }
     requires flow { IsPseudoflow (length potentials.now) graph.now.rows flow.now }
     requires potentials { AreInRange potentials.now }
-    ensures { IsTrue result ↔ KeepsRow (row_at graph.now.rows k) (number_at flow.now k) potentials.now }
+    ensures { IsTrue result ↔ KeepsArc graph.now.rows flow.now potentials.now k }
 {
     let row = graph.row(k);
     keeps_row(&row, flow[k], potentials)

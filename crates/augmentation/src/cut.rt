@@ -1,11 +1,10 @@
 //! The nodes that show why supply is left over or demand is not met.
 
-ghost use Rattle.std.specs.Prelude.{◌≡◌, ℕ, All, IfOk, IsTrue, length, ◌<◌, ◌≤◌, false, replicate, slice_index_or, slice_set, true};
+ghost use Rattle.std.specs.Prelude.{◌≡◌, ℕ, All, IfOk, length, ◌<◌, ◌≤◌, false, replicate, slice_index_or, slice_set, true};
 ghost use Rattle.residual_graph.specs.Graph.{HasEntries};
 ghost use Rattle.residual_graph.specs.Limits.{row_limit};
 ghost use Rattle.residual_graph.specs.Residual.{IsPseudoflow};
-ghost use Rattle.residual_graph.specs.declared.side.Side.TheVariants.{Ahead};
-ghost use Rattle.augmentation.specs.Cut.{AreNodesIn, AreTaken, AreOnSide, IsSideOfCut};
+ghost use Rattle.augmentation.specs.Cut.{AreNodesIn, AreTaken, IsSideOfCut, TellsMarks};
 ghost use Rattle.tracked.specs.Marks.{in_set};
 ghost use Rattle.tracked.specs.Tracked.{IsBroughtBack, IsFresh, IsWritten};
 
@@ -113,7 +112,7 @@ pub fn mark_cut(
     requires flow { IsPseudoflow (length excess.now) graph.now.rows flow.now.entries }
     requires cut_in { length cut.old.entries ≡ length excess.now }
     requires scratch_in { length scratch.old.potentials ≡ length excess.now }
-    requires marked { IsTrue are_marked → AreOnSide Ahead graph.now.rows flow.now.entries excess.now scratch.old.marks }
+    requires marked { TellsMarks are_marked graph.now flow.now excess.now scratch.old }
     ensures side { IsSideOfCut graph.now.rows flow.now.entries excess.now cut.new.entries }
     ensures written { IsWritten cut.old cut.new }
     ensures scratch { scratch.new ≡ record scratch.old { marks = scratch.new.marks } }

@@ -1,13 +1,12 @@
 //! A flow that becomes the wanted one at once, with the excess at the ends of each changed arc, and how many units that
 //! moves.
 
-ghost use Rattle.std.specs.Prelude.{◌≡◌, ℕ, ◌+◌, ◌<◌, ◌≤◌, ℤ, IfSome, IsTrue, List, length, slice_set, true};
+ghost use Rattle.std.specs.Prelude.{◌≡◌, ℕ, ◌<◌, ◌≤◌, IfSome, IsTrue, length, slice_set, true};
 ghost use Rattle.residual_graph.specs.Residual.{IsPseudoflow, IsRow};
-ghost use Rattle.augmentation.specs.Changes.{AreNearer, IsExcessAfter, IsNearer, Rises};
-ghost use Rattle.augmentation.specs.Exchange.{IsExchange, IsJournalFor, IsLed, RisesBetween};
+ghost use Rattle.augmentation.specs.Exchange.{AreChanged, AreExchanged, HasGiven, HaveGiven, IsDraftFor, IsJournalFor, IsLed, IsMovedAlong, RisesBetween, RisesSince};
 ghost use Rattle.tracked.specs.Journal.{IsJournal, IsSince};
 ghost use Rattle.tracked.specs.Marks.{in_set};
-ghost use Rattle.augmentation.specs.Push.{AreSmall, IsTransfer, left, part_above_0};
+ghost use Rattle.augmentation.specs.Push.{AreSmall};
 
 use crate::draft::Draft;
 use dimacs_text::ArcRow;
@@ -31,7 +30,7 @@ fn move_excess(excess: &mut [i64], journal: &mut Journal, row: &ArcRow, amount: 
     requires row { IsRow (length excess.old) row.now }
     requires journal { IsJournalFor (length excess.old) journal.old }
     ensures led { IsLed journal.old journal.new excess.old excess.new }
-    ensures moved { IsTrue result → IsTransfer row.now.tail row.now.head amount excess.old excess.new }
+    ensures moved { IsTrue result → IsMovedAlong row.now amount excess.old excess.new }
 {
     let tail = row.tail as usize;
     let head = row.head as usize;
@@ -56,13 +55,9 @@ fn change_arc(
     change: &Change,
 ) -> bool
     requires flow { IsPseudoflow (length excess.old) graph.now.rows flow.old }
-    requires flow_journal { IsJournalFor (length flow.old) draft.old.flow }
-    requires excess_journal { IsJournalFor (length excess.old) draft.old.excess }
-    ensures flow { IsPseudoflow (length excess.new) graph.now.rows flow.new }
-    ensures flow_led { IsLed draft.old.flow draft.new.flow flow.old flow.new }
-    ensures excess_led { IsLed draft.old.excess draft.new.excess excess.old excess.new }
-    ensures order { draft.new.order ≡ draft.old.order }
-    ensures excess { IsTrue result → IsExcessAfter graph.now.rows flow.old excess.old flow.new excess.new }
+    requires draft { IsDraftFor draft.old flow.old excess.old }
+    ensures { AreChanged graph.now draft.old draft.new
+        flow.old excess.old flow.new excess.new result }
 {
     let k = change.arc as usize;
     if k >= flow.len() {
@@ -87,13 +82,9 @@ fn change_arcs(
     changes: &[Change],
 ) -> bool
     requires flow { IsPseudoflow (length excess.old) graph.now.rows flow.old }
-    requires flow_journal { IsJournalFor (length flow.old) draft.old.flow }
-    requires excess_journal { IsJournalFor (length excess.old) draft.old.excess }
-    ensures flow { IsPseudoflow (length excess.new) graph.now.rows flow.new }
-    ensures flow_led { IsLed draft.old.flow draft.new.flow flow.old flow.new }
-    ensures excess_led { IsLed draft.old.excess draft.new.excess excess.old excess.new }
-    ensures order { draft.new.order ≡ draft.old.order }
-    ensures excess { IsTrue result → IsExcessAfter graph.now.rows flow.old excess.old flow.new excess.new }
+    requires draft { IsDraftFor draft.old flow.old excess.old }
+    ensures { AreChanged graph.now draft.old draft.new
+        flow.old excess.old flow.new excess.new result }
 {
     for change in changes {
         if !change_arc(graph, flow, excess, draft, change) {
@@ -121,7 +112,7 @@ fn rises_at(row: &ArcRow, before: i64, flow: i64, ranks: &[u32]) -> bool
 fn rise(graph: &Graph, flow: &[i64], journal: &Journal, ranks: &[u32]) -> bool
     requires flow { IsPseudoflow (length ranks.now) graph.now.rows flow.now }
     requires room { length flow.now ≤ length journal.now.before.items }
-    ensures { IsTrue result → (x : List ℤ) → IsSince journal.now x flow.now → Rises graph.now.rows x flow.now ranks.now }
+    ensures { IsTrue result → RisesSince graph.now.rows journal.now flow.now ranks.now }
 {
     for place in journal.written.places() {
         let k = *place as usize;
@@ -138,7 +129,7 @@ fn rise(graph: &Graph, flow: &[i64], journal: &Journal, ranks: &[u32]) -> bool
 
 /// How much a node gave; none where its excess or deficit did not come nearer to 0.
 fn given(before: i64, after: i64) -> Option<u64>
-    ensures { IfSome result (λ n. IsNearer before after × (n + part_above_0 after ≡ part_above_0 before)) }
+    ensures { IfSome result (HasGiven before after) }
 {
     if 0 <= after && after <= before {
         Some((before - after) as u64)
@@ -153,7 +144,7 @@ fn given(before: i64, after: i64) -> Option<u64>
 fn units_given(journal: &Journal, excess: &[i64]) -> Option<u64>
     requires places { (v : ℕ) → in_set journal.now.written v ≡ true → v < length excess.now }
     requires room { length excess.now ≤ length journal.now.before.items }
-    ensures { IfSome result (λ n. (before : List ℤ) → IsSince journal.now before excess.now → AreNearer before excess.now × (n + left excess.now ≡ left before)) }
+    ensures { IfSome result (HaveGiven journal.now excess.now) }
 {
     let mut units: u64 = 0;
     for place in journal.written.places() {
@@ -175,10 +166,9 @@ pub(crate) fn exchange(
 ) -> Option<u64>
     requires flow { IsPseudoflow (length excess.old) graph.now.rows flow.old }
     requires small { AreSmall excess.old }
-    requires flow_journal { IsJournalFor (length flow.old) draft.old.flow }
-    requires excess_journal { IsJournalFor (length excess.old) draft.old.excess }
+    requires draft { IsDraftFor draft.old flow.old excess.old }
     requires order { draft.old.order ≡ length excess.old }
-    ensures some { IfSome result (λ n. IsExchange (length excess.old) graph.now.rows n flow.old excess.old flow.new excess.new) }
+    ensures some { IfSome result (AreExchanged graph.now flow.old excess.old flow.new excess.new) }
     ensures flow_journal { IsJournal draft.new.flow }
     ensures flow_since { IsSince draft.new.flow flow.old flow.new }
     ensures excess_journal { IsJournal draft.new.excess }

@@ -3,12 +3,10 @@
 
 ghost use Rattle.std.specs.Prelude.{◌≡◌, ◌<◌, ℕ, IsTrue, length, true};
 ghost use Rattle.residual_graph.specs.Graph.{HasEntries};
-ghost use Rattle.residual_graph.specs.Residual.{IsPseudoflow, end_at, number_at};
+ghost use Rattle.residual_graph.specs.Residual.{IsPseudoflow};
 ghost use Rattle.residual_graph.specs.declared.residual.Way.{Way};
-ghost use Rattle.shortest_paths.specs.Predecessor.{IsTracedAt, arc_to};
-ghost use Rattle.augmentation.specs.Certificate.{AreInRange};
 ghost use Rattle.tracked.specs.Marks.{in_set};
-ghost use Rattle.augmentation.specs.Held.{AllMarked, AreTestedIn, AreTestedOn, HangsWellOn, HoldsAlongOn, HoldsAtOn, IsHeldIn, IsInRangeAt, IsTracedOn};
+ghost use Rattle.augmentation.specs.Held.{AllMarked, AreTestedIn, AreTestedOn, AreTracedAllOn, HangsWellOn, HoldAlongAllOn, HoldAtAllOn, HoldsAlongOn, HoldsAtOn, IsHeldIn, IsInRangeAt, IsLabelling};
 
 use crate::certificate::{FLOOR, certifies, keeps_arc};
 use residual_graph::{Graph, Walk, Way};
@@ -43,9 +41,7 @@ fn are_in_range_at(labels: &[i64], nodes: &Touched) -> bool
 /// Whether the node to which the residual arc in this way along an arc leads is traced, if it hangs on that arc.
 fn hangs_well(on: Labelled<'_>, k: usize, way: Way) -> bool
     requires arc { k < length on.graph.now.rows }
-    requires flow { IsPseudoflow (length on.labels.now) on.graph.now.rows on.flow.now }
-    requires labels { AreInRange on.labels.now }
-    requires same_length { length on.predecessors.now ≡ length on.labels.now }
+    requires labelling { IsLabelling on }
     ensures { IsTrue result → HangsWellOn on.entry k way }
 {
     let v = on.graph.end(k, way);
@@ -56,9 +52,7 @@ fn hangs_well(on: Labelled<'_>, k: usize, way: Way) -> bool
 /// Whether the labels certify an arc, and each node that hangs on it is traced.
 fn holds_along(on: Labelled<'_>, k: usize) -> bool
     requires arc { k < length on.graph.now.rows }
-    requires flow { IsPseudoflow (length on.labels.now) on.graph.now.rows on.flow.now }
-    requires labels { AreInRange on.labels.now }
-    requires same_length { length on.predecessors.now ≡ length on.labels.now }
+    requires labelling { IsLabelling on }
     ensures { IsTrue result → HoldsAlongOn on.entry k }
 {
     keeps_arc(on.graph, on.flow, on.labels, k)
@@ -68,10 +62,8 @@ fn holds_along(on: Labelled<'_>, k: usize) -> bool
 
 /// Whether this is so of these arcs.
 fn hold_along_all(on: Labelled<'_>, arcs: &Touched) -> bool
-    requires flow { IsPseudoflow (length on.labels.now) on.graph.now.rows on.flow.now }
-    requires labels { AreInRange on.labels.now }
-    requires same_length { length on.predecessors.now ≡ length on.labels.now }
-    ensures { IsTrue result → AllMarked arcs.now (length on.entry.graph.now.rows) (HoldsAlongOn on.entry) }
+    requires labelling { IsLabelling on }
+    ensures { IsTrue result → HoldAlongAllOn on.entry arcs.now }
 {
     for place in arcs.places() {
         let k = *place as usize;
@@ -88,9 +80,7 @@ fn hold_along_all(on: Labelled<'_>, arcs: &Touched) -> bool
 /// Whether it is so of each arc at a node, and the node is traced.
 fn holds_at(on: Labelled<'_>, node: u32) -> bool
     requires graph { HasEntries (length on.labels.now) on.graph.now }
-    requires flow { IsPseudoflow (length on.labels.now) on.graph.now.rows on.flow.now }
-    requires labels { AreInRange on.labels.now }
-    requires same_length { length on.predecessors.now ≡ length on.labels.now }
+    requires labelling { IsLabelling on }
     requires node_in { node < length on.labels.now }
     ensures { IsTrue result → HoldsAtOn on.entry node }
 {
@@ -123,10 +113,8 @@ fn holds_at(on: Labelled<'_>, node: u32) -> bool
 /// Whether it is so at each of these nodes.
 fn hold_at_all(on: Labelled<'_>, nodes: &Touched) -> bool
     requires graph { HasEntries (length on.labels.now) on.graph.now }
-    requires flow { IsPseudoflow (length on.labels.now) on.graph.now.rows on.flow.now }
-    requires labels { AreInRange on.labels.now }
-    requires same_length { length on.predecessors.now ≡ length on.labels.now }
-    ensures { IsTrue result → AllMarked nodes.now (length on.entry.labels.now) (HoldsAtOn on.entry) }
+    requires labelling { IsLabelling on }
+    ensures { IsTrue result → HoldAtAllOn on.entry nodes.now }
 {
     for node in nodes.places() {
         let v = *node as usize;
@@ -142,10 +130,8 @@ fn hold_at_all(on: Labelled<'_>, nodes: &Touched) -> bool
 
 /// Whether each of these nodes is traced.
 fn are_traced_at(on: Labelled<'_>, nodes: &Touched) -> bool
-    requires flow { IsPseudoflow (length on.labels.now) on.graph.now.rows on.flow.now }
-    requires labels { AreInRange on.labels.now }
-    requires same_length { length on.predecessors.now ≡ length on.labels.now }
-    ensures { IsTrue result → AllMarked nodes.now (length on.entry.labels.now) (IsTracedOn on.entry) }
+    requires labelling { IsLabelling on }
+    ensures { IsTrue result → AreTracedAllOn on.entry nodes.now }
 {
     for node in nodes.places() {
         let v = *node as usize;
@@ -181,9 +167,7 @@ fn hold_there(
     rehung: &Touched,
 ) -> bool
     requires graph { HasEntries (length on.labels.now) on.graph.now }
-    requires flow { IsPseudoflow (length on.labels.now) on.graph.now.rows on.flow.now }
-    requires labels { AreInRange on.labels.now }
-    requires same_length { length on.predecessors.now ≡ length on.labels.now }
+    requires labelling { IsLabelling on }
     ensures { IsTrue result → AreTestedOn on.entry noted.now beside.now written.now rehung.now }
 {
     if !hold_along_all(on, noted) || !hold_along_all(on, written) || !are_traced_at(on, beside) {

@@ -1,6 +1,6 @@
 //! Pushes and the greatest potentials after an edit, in the table that holds the potentials: no table is gone over.
 
-ghost use Rattle.std.specs.Prelude.{◌≡◌, ℕ, ◌<◌, ◌≤◌, IfOk, IsTrue, MatchOption, false, length, true};
+ghost use Rattle.std.specs.Prelude.{◌≡◌, ℕ, ◌<◌, ◌≤◌, IfOk, false, length, true};
 ghost use Rattle.std.specs.Bool.{OnFalse};
 ghost use Rattle.residual_graph.specs.Graph.{HasEntries};
 ghost use Rattle.residual_graph.specs.Limits.{row_limit};
@@ -8,11 +8,10 @@ ghost use Rattle.residual_graph.specs.Residual.{IsPseudoflow};
 ghost use Rattle.tracked.specs.Marks.{in_set};
 ghost use Rattle.tracked.specs.Touched.{NameChanges};
 ghost use Rattle.tracked.specs.Tracked.{IsWritten};
-ghost use Rattle.augmentation.specs.Adoption.{IsAsBefore};
 ghost use Rattle.augmentation.specs.Held.{AllMarked, IsHeldIn};
-ghost use Rattle.augmentation.specs.Near.{AreInStep, IsRaisedBy};
+ghost use Rattle.augmentation.specs.Near.{AreInStep, IsRaisedOrAsBefore};
 ghost use Rattle.augmentation.specs.Pseudoflow.{IsReady};
-ghost use Rattle.augmentation.specs.Settle.{AreShortest};
+ghost use Rattle.augmentation.specs.Settle.{TellsGreatest};
 
 use crate::adoption::{lead, take_back};
 use crate::excess::Excess;
@@ -165,7 +164,7 @@ fn raise_near(
     requires held { IsHeldIn graph.now.rows flow.now.whole scratch.old.held }
     requires step { AreInStep apart.old scratch.old.held.labels potentials.old.entries }
     ensures written { IsWritten potentials.old potentials.new }
-    ensures shortest { IsTrue result → AreShortest graph.now.rows flow.now.entries potentials.new.entries }
+    ensures shortest { TellsGreatest result graph.now flow.now potentials.new.entries }
     ensures kept { OnFalse result (potentials.new ≡ potentials.old) }
     ensures scratch_in { length scratch.new.potentials ≡ length scratch.old.potentials }
     ensures held { IsHeldIn graph.now.rows flow.now.whole scratch.new.held }
@@ -232,7 +231,8 @@ fn push_proposed_near(
     requires step { AreInStep apart.old scratch.old.held.labels potentials.old.entries }
     ensures flow_written { IsWritten flow.old flow.new }
     ensures potentials_written { IsWritten potentials.old potentials.new }
-    ensures pushed { MatchOption result (IsAsBefore flow.old flow.new excess.old excess.new potentials.old.entries potentials.new.entries) (λ n. IsRaisedBy graph.now n flow.old.entries excess.old flow.new.entries excess.new potentials.new.entries) }
+    ensures pushed { IsRaisedOrAsBefore graph.now result
+        flow.old flow.new excess.old excess.new potentials.old potentials.new }
     ensures scratch_in { length scratch.new.potentials ≡ length scratch.old.potentials }
     ensures held { IsHeldIn graph.now.rows flow.new.whole scratch.new.held }
     ensures step { AreInStep apart.new scratch.new.held.labels potentials.new.entries }
@@ -270,7 +270,8 @@ pub fn push_near(
     requires step { AreInStep apart.old scratch.old.held.labels potentials.old.entries }
     ensures flow_written { IsWritten flow.old flow.new }
     ensures potentials_written { IsWritten potentials.old potentials.new }
-    ensures pushed { MatchOption result (IsAsBefore flow.old flow.new excess.old excess.new potentials.old.entries potentials.new.entries) (λ n. IsRaisedBy graph.now n flow.old.entries excess.old flow.new.entries excess.new potentials.new.entries) }
+    ensures pushed { IsRaisedOrAsBefore graph.now result
+        flow.old flow.new excess.old excess.new potentials.old potentials.new }
     ensures scratch_in { length scratch.new.potentials ≡ length scratch.old.potentials }
     ensures held { IsHeldIn graph.now.rows flow.new.whole scratch.new.held }
     ensures step { AreInStep apart.new scratch.new.held.labels potentials.new.entries }

@@ -1,12 +1,11 @@
 //! The greatest potentials that certify a flow: the shortest labels.
 
-ghost use Rattle.std.specs.Prelude.{◌≡◌, length, IfNone, IfSome, IsTrue, Some, true};
+ghost use Rattle.std.specs.Prelude.{◌≡◌, length, IfNone, IfSome, IsTrue};
 ghost use Rattle.residual_graph.specs.Graph.{HasEntries};
-ghost use Rattle.shortest_paths.specs.Limits.{label_floor};
-ghost use Rattle.residual_graph.specs.Residual.{AreGreatest, ArePotentials, IsPseudoflow, IsReducedCostOptimal};
-ghost use Rattle.augmentation.specs.Certificate.{AreCertifying};
+ghost use Rattle.residual_graph.specs.Residual.{IsPseudoflow, IsReducedCostOptimal};
+ghost use Rattle.augmentation.specs.Certificate.{IsCertificate};
 ghost use Rattle.augmentation.specs.Held.{AreTestedIn, IsHeldIn};
-ghost use Rattle.augmentation.specs.Settle.{AreShortest};
+ghost use Rattle.augmentation.specs.Settle.{AreShortest, TellsGreatest};
 ghost use Rattle.tracked.specs.Tracked.{IsWritten};
 
 use crate::certificate::certifies;
@@ -107,7 +106,7 @@ pub(crate) fn renew(graph: &Graph, flow: &Tracked<i64>, potentials: &[i64], tree
     requires flow { IsPseudoflow (length potentials.now) graph.now.rows flow.now.entries }
     requires sized { length tree.old.labels ≡ length potentials.now }
     requires held { IsHeldIn graph.now.rows flow.now.whole tree.old.held }
-    ensures shortest { IsTrue result → AreShortest graph.now.rows flow.now.entries tree.new.labels }
+    ensures shortest { TellsGreatest result graph.now flow.now tree.new.labels }
     ensures sized { length tree.new.labels ≡ length tree.old.labels }
     ensures held { IsHeldIn graph.now.rows flow.now.whole tree.new.held }
 {
@@ -134,8 +133,7 @@ pub(crate) fn certify(
     requires held { IsHeldIn graph.now.rows flow.now.whole tree.old.held }
     ensures same_length { length potentials.new ≡ length potentials.old }
     ensures none { IfNone result (potentials.new ≡ potentials.old) }
-    ensures some { IfSome result (λ greatest. AreCertifying graph.now.rows flow.now.entries potentials.new) }
-    ensures greatest { result ≡ Some true → AreGreatest graph.now.rows flow.now.entries potentials.new }
+    ensures some { IfSome result (IsCertificate graph.now.rows flow.now.entries potentials.new) }
     ensures sized { length tree.new.labels ≡ length tree.old.labels }
     ensures held { IsHeldIn graph.now.rows flow.now.whole tree.new.held }
 {
@@ -165,13 +163,12 @@ pub fn write_potentials(
 )
     requires same_length { length potentials.old.entries ≡ length scratch.old.potentials }
     requires graph { HasEntries (length scratch.old.potentials) graph.now }
-    requires certified { IsReducedCostOptimal graph.now.rows flow.now.entries scratch.old.potentials }
-    requires known { IsTrue are_greatest → AreShortest graph.now.rows flow.now.entries scratch.old.potentials }
+    requires certified { IsReducedCostOptimal graph.now.rows
+        flow.now.entries scratch.old.potentials }
+    requires known { TellsGreatest are_greatest graph.now flow.now scratch.old.potentials }
     requires held { IsHeldIn graph.now.rows flow.now.whole scratch.old.held }
     ensures written { IsWritten potentials.old potentials.new }
-    ensures certified { IsReducedCostOptimal graph.now.rows flow.now.entries potentials.new.entries }
-    ensures within { ArePotentials (length potentials.new.entries) label_floor potentials.new.entries }
-    ensures greatest { AreGreatest graph.now.rows flow.now.entries potentials.new.entries }
+    ensures shortest { AreShortest graph.now.rows flow.now.entries potentials.new.entries }
     ensures sized { length scratch.new.potentials ≡ length scratch.old.potentials }
     ensures marks { scratch.new.marks ≡ scratch.old.marks }
     ensures held { IsHeldIn graph.now.rows flow.now.whole scratch.new.held }

@@ -2,12 +2,13 @@
 
 ghost use Rattle.std.specs.Prelude.{◌≡◌, ◌<◌, ◌<ℤ◌, IsTrue, length, pos};
 ghost use Rattle.residual_graph.specs.Residual.{number_at};
-ghost use Rattle.augmentation.specs.Pseudoflow.{IsCertifiedPseudoflow};
-ghost use Rattle.augmentation.specs.Push.{ArePushes, one_if};
-ghost use Rattle.tracked.specs.Tracked.{IsWritten};
-ghost use Rattle.shortest_paths.specs.Search.{HasFound, IsForest, IsReached};
+ghost use Rattle.augmentation.specs.Found.{HasFoundIn};
+ghost use Rattle.augmentation.specs.Pseudoflow.{IsCertifiedIn};
+ghost use Rattle.augmentation.specs.Push.{one_if};
+ghost use Rattle.augmentation.specs.Pushes.{HavePushed};
+ghost use Rattle.shortest_paths.specs.Search.{IsForest, IsReached};
 
-use crate::augment::augment;
+use crate::augment::{Path, augment};
 use crate::excess::Excess;
 use crate::scratch::Scratch;
 use residual_graph::Graph;
@@ -20,12 +21,10 @@ pub(crate) fn push_to_all(
     excess: &mut Excess,
     scratch: &mut Scratch,
 ) -> u64
-    requires state { IsCertifiedPseudoflow graph.now flow.old.entries scratch.old.potentials excess.old }
+    requires state { IsCertifiedIn graph.now flow.old excess.old scratch.old }
     requires forest { IsForest graph.now.rows scratch.old.potentials scratch.old.predecessors }
-    ensures flow_written { IsWritten flow.old flow.new }
-    ensures state { IsCertifiedPseudoflow graph.now flow.new.entries scratch.new.potentials excess.new }
-    ensures held { scratch.new.held ≡ scratch.old.held }
-    ensures pushed { ArePushes graph.now.rows result flow.old.entries excess.old flow.new.entries excess.new }
+    ensures pushed { HavePushed graph.now result
+        flow.old flow.new excess.old excess.new scratch.old scratch.new }
 {
     let mut pushes = 0;
     for target in 0..scratch.predecessors.len() {
@@ -42,14 +41,13 @@ fn push_all_to(
     scratch: &mut Scratch,
     target: usize,
 ) -> u64
-    requires state { IsCertifiedPseudoflow graph.now flow.old.entries scratch.old.potentials excess.old }
+    requires state { IsCertifiedIn graph.now flow.old excess.old scratch.old }
     requires forest { IsForest graph.now.rows scratch.old.potentials scratch.old.predecessors }
     requires target { target < length scratch.old.predecessors }
-    ensures flow_written { IsWritten flow.old flow.new }
-    ensures state { IsCertifiedPseudoflow graph.now flow.new.entries scratch.new.potentials excess.new }
+    ensures pushed { HavePushed graph.now result
+        flow.old flow.new excess.old excess.new scratch.old scratch.new }
     ensures forest { IsForest graph.now.rows scratch.new.potentials scratch.new.predecessors }
     ensures same { scratch.new ≡ record scratch.old { predecessors = scratch.new.predecessors } }
-    ensures pushed { ArePushes graph.now.rows result flow.old.entries excess.old flow.new.entries excess.new }
 {
     let mut pushes = 0;
     while push_once(graph, flow, excess, scratch, target) {
@@ -66,14 +64,13 @@ fn push_once(
     scratch: &mut Scratch,
     target: usize,
 ) -> bool
-    requires state { IsCertifiedPseudoflow graph.now flow.old.entries scratch.old.potentials excess.old }
+    requires state { IsCertifiedIn graph.now flow.old excess.old scratch.old }
     requires forest { IsForest graph.now.rows scratch.old.potentials scratch.old.predecessors }
     requires target { target < length scratch.old.predecessors }
-    ensures flow_written { IsWritten flow.old flow.new }
-    ensures state { IsCertifiedPseudoflow graph.now flow.new.entries scratch.new.potentials excess.new }
+    ensures pushed { HavePushed graph.now (one_if result)
+        flow.old flow.new excess.old excess.new scratch.old scratch.new }
     ensures forest { IsForest graph.now.rows scratch.new.potentials scratch.new.predecessors }
     ensures same { scratch.new ≡ record scratch.old { predecessors = scratch.new.predecessors } }
-    ensures pushed { ArePushes graph.now.rows (one_if result) flow.old.entries excess.old flow.new.entries excess.new }
 {
     if excess.entries[target] >= 0 || !scratch.find_way(graph, flow.entries(), excess, target) {
         return false;
@@ -92,20 +89,18 @@ pub(crate) fn push_to(
     scratch: &Scratch,
     target: usize,
 ) -> bool
-    requires state { IsCertifiedPseudoflow graph.now flow.old.entries scratch.now.potentials excess.old }
+    requires state { IsCertifiedIn graph.now flow.old excess.old scratch.now }
     requires forest { IsForest graph.now.rows scratch.now.potentials scratch.now.predecessors }
     requires reached { IsReached scratch.now.predecessors target }
     requires deficit { number_at excess.old target <ℤ pos 0 }
-    ensures flow_written { IsWritten flow.old flow.new }
-    ensures state { IsCertifiedPseudoflow graph.now flow.new.entries scratch.now.potentials excess.new }
-    ensures pushed { ArePushes graph.now.rows (one_if result) flow.old.entries excess.old flow.new.entries excess.new }
-    ensures some { HasFound graph.now.rows flow.old.entries scratch.now.potentials excess.old scratch.now.predecessors target → IsTrue result }
+    ensures pushed { HavePushed graph.now (one_if result)
+        flow.old flow.new excess.old excess.new scratch.now scratch.now }
+    ensures some { HasFoundIn graph.now flow.old excess.old scratch.now target → IsTrue result }
 {
-    augment(
+    let path = Path {
         graph,
-        flow,
-        &mut excess.entries,
-        &scratch.predecessors,
+        predecessors: &scratch.predecessors,
         target,
-    )
+    };
+    augment(path, flow, &mut excess.entries)
 }

@@ -1,11 +1,11 @@
 //! Searches and pushes in turn, until no node in excess reaches a node in deficit.
 
-ghost use Rattle.std.specs.Prelude.{◌≡◌, ◌≤◌, IsTrue, length, MatchOption};
+ghost use Rattle.std.specs.Prelude.{◌≡◌, ◌≤◌, IsTrue};
+ghost use Rattle.augmentation.specs.Certificate.{AreInRange};
 ghost use Rattle.augmentation.specs.Cut.{IsParted};
-ghost use Rattle.augmentation.specs.Pseudoflow.{IsCertifiedPseudoflow, IsReady};
-ghost use Rattle.augmentation.specs.Push.{ArePushes};
-ghost use Rattle.tracked.specs.Tracked.{IsWritten};
-ghost use Rattle.shortest_paths.specs.Search.{HasFound};
+ghost use Rattle.augmentation.specs.Found.{HasFoundIn, IsFoundOrParted};
+ghost use Rattle.augmentation.specs.Pseudoflow.{IsCertifiedIn, IsReady, IsReadyIn};
+ghost use Rattle.augmentation.specs.Pushes.{HavePushed};
 
 use crate::excess::Excess;
 use crate::pushes::{push_to, push_to_all};
@@ -27,12 +27,10 @@ pub fn finish(
     excess: &mut Excess,
     scratch: &mut Scratch,
 ) -> u64
-    requires ready { IsReady graph.now flow.old.entries scratch.old.potentials excess.old }
-    ensures flow_written { IsWritten flow.old flow.new }
-    ensures state { IsCertifiedPseudoflow graph.now flow.new.entries scratch.new.potentials excess.new }
-    ensures pushed { ArePushes graph.now.rows result flow.old.entries excess.old flow.new.entries excess.new }
+    requires ready { IsReadyIn graph.now flow.old excess.old scratch.old }
+    ensures pushed { HavePushed graph.now result
+        flow.old flow.new excess.old excess.new scratch.old scratch.new }
     ensures parted { IsParted graph.now.rows flow.new.entries excess.new }
-    ensures held { scratch.new.held ≡ scratch.old.held }
 {
     if is_parted(graph, flow.entries(), excess, scratch) {
         return 0;
@@ -65,10 +63,10 @@ fn search_on(
     excess: &Excess,
     scratch: &mut Scratch,
 ) -> Option<usize>
-    requires ready { IsReady graph.now flow.now.entries scratch.old.potentials excess.now }
-    ensures state { IsCertifiedPseudoflow graph.now flow.now.entries scratch.new.potentials excess.now }
+    requires ready { IsReadyIn graph.now flow.now excess.now scratch.old }
+    ensures state { IsCertifiedIn graph.now flow.now excess.now scratch.new }
     ensures held { scratch.new.held ≡ scratch.old.held }
-    ensures found { MatchOption result (IsParted graph.now.rows flow.now.entries excess.now) (HasFound graph.now.rows flow.now.entries scratch.new.potentials excess.now scratch.new.predecessors) }
+    ensures found { IsFoundOrParted graph.now flow.now excess.now scratch.new result }
 {
     if !excess.has_both() {
         return None;
@@ -92,12 +90,11 @@ fn push_round(
     scratch: &mut Scratch,
     target: usize,
 ) -> u64
-    requires state { IsCertifiedPseudoflow graph.now flow.old.entries scratch.old.potentials excess.old }
-    requires found { HasFound graph.now.rows flow.old.entries scratch.old.potentials excess.old scratch.old.predecessors target }
-    ensures flow_written { IsWritten flow.old flow.new }
-    ensures ready { IsReady graph.now flow.new.entries scratch.new.potentials excess.new }
-    ensures held { scratch.new.held ≡ scratch.old.held }
-    ensures pushed { ArePushes graph.now.rows result flow.old.entries excess.old flow.new.entries excess.new }
+    requires state { IsCertifiedIn graph.now flow.old excess.old scratch.old }
+    requires found { HasFoundIn graph.now flow.old excess.old scratch.old target }
+    ensures pushed { HavePushed graph.now result
+        flow.old flow.new excess.old excess.new scratch.old scratch.new }
+    ensures in_range { AreInRange scratch.new.potentials }
     ensures some { 1 ≤ result }
 {
     push_to(graph, flow, excess, scratch, target);
@@ -117,11 +114,9 @@ fn push_by_levels(
     scratch: &mut Scratch,
     before: u64,
 ) -> u64
-    requires state { IsCertifiedPseudoflow graph.now flow.old.entries scratch.old.potentials excess.old }
-    ensures flow_written { IsWritten flow.old flow.new }
-    ensures state { IsCertifiedPseudoflow graph.now flow.new.entries scratch.new.potentials excess.new }
-    ensures held { scratch.new.held ≡ scratch.old.held }
-    ensures pushed { ArePushes graph.now.rows result flow.old.entries excess.old flow.new.entries excess.new }
+    requires state { IsCertifiedIn graph.now flow.old excess.old scratch.old }
+    ensures pushed { HavePushed graph.now result
+        flow.old flow.new excess.old excess.new scratch.old scratch.new }
 {
     if before >= FEW_PUSHES || !scratch.trails.are_levels_due() {
         return 0;

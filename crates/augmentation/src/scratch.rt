@@ -117,7 +117,7 @@ impl Scratch {
         ensures held { StaysHeld self.old.held self.new.held }
         ensures noted { AreArcsNoted graph.now.rows places.now self.new.held }
     {
-        self.attempt.note_all(places);
+        self.attempt.proposals.note_all(places);
         self.tree.note_all(graph, places);
     }
 
@@ -188,7 +188,7 @@ impl Scratch {
         requires certified { IsReducedCostOptimal graph.now.rows flow.now self.old.potentials }
         requires excess_in { length excess.now ≡ length self.old.potentials }
         ensures same { self.new ≡ record self.old { predecessors = self.new.predecessors } }
-        ensures search { IsSearch graph.now.rows flow.now self.old.potentials self.new.predecessors }
+        ensures paths { IsSearch graph.now.rows flow.now self.old.potentials self.new.predecessors }
     {
         search_levels(
             graph,
@@ -226,7 +226,8 @@ impl Scratch {
     /// Makes potentials that certify a flow the greatest that do.
     pub(crate) fn raise(&mut self, graph: &Graph, flow: &Tracked<i64>)
         requires graph { HasEntries (length self.old.potentials) graph.now }
-        requires certified { IsReducedCostOptimal graph.now.rows flow.now.entries self.old.potentials }
+        requires certified { IsReducedCostOptimal graph.now.rows
+            flow.now.entries self.old.potentials }
         requires held { IsHeldIn graph.now.rows flow.now.whole self.old.held }
         ensures sized { length self.new.potentials ≡ length self.old.potentials }
         ensures marks { self.new.marks ≡ self.old.marks }

@@ -1,9 +1,10 @@
 //! The nodes of a side: those that the nodes in excess reach, or those that reach a node in deficit.
 
-ghost use Rattle.std.specs.Prelude.{◌≡◌, ℕ, length, ◌<◌, true};
+ghost use Rattle.std.specs.Prelude.{◌≡◌, length, ◌<◌, true};
 ghost use Rattle.residual_graph.specs.Residual.{IsPseudoflow};
 ghost use Rattle.residual_graph.specs.Graph.{HasEntries};
-ghost use Rattle.augmentation.specs.Cut.{AreRoots, AreOnSide, IsGrown, IsFarIn, AreFarIn, near_at, near_of, far_of};
+ghost use Rattle.augmentation.specs.Cut.{AreOnSide, AreRoots, far_of, near_of};
+ghost use Rattle.augmentation.specs.Side.{AreFarOn, IsGrownOn, MarksOn};
 ghost use Rattle.tracked.specs.Marks.{in_set};
 ghost use Rattle.residual_graph.specs.declared.residual.Way.{Way};
 
@@ -64,8 +65,8 @@ fn mark_from(on: OnSide<'_>, marked: &mut Marked, node: u32)
     requires graph { HasEntries (length marked.old.marks) on.graph.now }
     requires flow { IsPseudoflow (length marked.old.marks) on.graph.now.rows on.flow.now }
     requires marked { in_set marked.old.marks node ≡ true }
-    ensures grown { IsGrown on.entry.side on.entry.graph.now.rows on.entry.flow.now marked.old marked.new }
-    ensures far { AreFarIn on.entry.side on.entry.graph.now.rows on.entry.flow.now marked.new.marks node }
+    ensures grown { IsGrownOn on.entry marked.old marked.new }
+    ensures far { AreFarOn on.entry marked.new node }
 {
     let mut current = on.graph.first_end(node);
     while let Some(end) = current {
@@ -78,8 +79,8 @@ fn mark_from(on: OnSide<'_>, marked: &mut Marked, node: u32)
 fn mark_over(on: OnSide<'_>, marked: &mut Marked, arc: u32)
     requires flow { IsPseudoflow (length marked.old.marks) on.graph.now.rows on.flow.now }
     requires arc { arc < length on.graph.now.rows }
-    ensures grown { IsGrown on.entry.side on.entry.graph.now.rows on.entry.flow.now marked.old marked.new }
-    ensures far { (way : Way) → in_set marked.old.marks (near_at on.entry.side on.entry.graph.now.rows arc way) ≡ true → IsFarIn on.entry.side on.entry.graph.now.rows on.entry.flow.now marked.new.marks arc way }
+    ensures grown { IsGrownOn on.entry marked.old marked.new }
+    ensures far { (way : Way) → MarksOn on.entry marked.old marked.new arc way }
 {
     let row = on.graph.row(arc as usize);
     // Most nodes are marked already: the flow is not read.
@@ -95,8 +96,8 @@ fn mark_over(on: OnSide<'_>, marked: &mut Marked, arc: u32)
 fn mark_by(on: OnSide<'_>, marked: &mut Marked, arc: u32, way: Way)
     requires flow { IsPseudoflow (length marked.old.marks) on.graph.now.rows on.flow.now }
     requires arc { arc < length on.graph.now.rows }
-    ensures grown { IsGrown on.entry.side on.entry.graph.now.rows on.entry.flow.now marked.old marked.new }
-    ensures far { in_set marked.old.marks (near_at on.entry.side on.entry.graph.now.rows arc way) ≡ true → IsFarIn on.entry.side on.entry.graph.now.rows on.entry.flow.now marked.new.marks arc way }
+    ensures grown { IsGrownOn on.entry marked.old marked.new }
+    ensures far { MarksOn on.entry marked.old marked.new arc way }
 {
     let row = on.graph.row(arc as usize);
     let far = far_of(on.side, &row, way);

@@ -3,10 +3,8 @@
 //!
 //! Proved is that each call returns, that no index leaves its range, and that the forest stays one.
 
-ghost use Rattle.std.specs.Prelude.{◌≡◌, length};
-ghost use Rattle.residual_graph.specs.Limits.{potential_floor};
-ghost use Rattle.residual_graph.specs.Residual.{ArePotentials, IsPseudoflow};
 ghost use Rattle.shortest_paths.specs.Search.{IsForest};
+ghost use Rattle.augmentation.specs.Trails.{IsGround};
 
 use residual_graph::Graph;
 use shortest_paths::{Predecessor, hang_on};
@@ -170,9 +168,7 @@ pub(crate) fn find_way(
     trails: &mut Trails,
     target: usize,
 ) -> bool
-    requires flow { IsPseudoflow (length on.potentials.now) on.graph.now.rows on.flow.now }
-    requires potentials { ArePotentials (length on.potentials.now) potential_floor on.potentials.now }
-    requires excess_in { length on.excess.now ≡ length on.potentials.now }
+    requires ground { IsGround on }
     requires forest { IsForest on.graph.now.rows on.potentials.now predecessors.old }
     ensures forest { IsForest on.entry.graph.now.rows on.entry.potentials.now predecessors.new }
 {
@@ -199,9 +195,7 @@ fn step_back(
     trails: &mut Trails,
     node: usize,
 ) -> Step
-    requires flow { IsPseudoflow (length on.potentials.now) on.graph.now.rows on.flow.now }
-    requires potentials { ArePotentials (length on.potentials.now) potential_floor on.potentials.now }
-    requires excess_in { length on.excess.now ≡ length on.potentials.now }
+    requires ground { IsGround on }
     requires forest { IsForest on.graph.now.rows on.potentials.now predecessors.old }
     ensures forest { IsForest on.entry.graph.now.rows on.entry.potentials.now predecessors.new }
 {

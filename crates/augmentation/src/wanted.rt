@@ -1,8 +1,8 @@
 //! The potentials of a proposal.
 
-ghost use Rattle.std.specs.Prelude.{◌≡◌, ℕ, ◌<◌, pos, neg_ℤ, ◌-ℤ◌, ◌≤ℤ◌, length};
+ghost use Rattle.std.specs.Prelude.{◌≡◌, ℕ, pos, neg_ℤ, ◌-ℤ◌, ◌≤ℤ◌, length};
 ghost use Rattle.residual_graph.specs.Residual.{number_at};
-ghost use Rattle.augmentation.specs.Wanted.{AreLoweredAlike, AreModerate, shift_limit};
+ghost use Rattle.augmentation.specs.Wanted.{AreLoweredAlike, AreModerate, IsNoneAbove, shift_limit};
 
 /// How far from 0 potentials may lie that are shifted.
 const SHIFT_LIMIT: i64 = 4_000_000_000_000_000_000;
@@ -23,7 +23,8 @@ pub fn shift_potentials(potentials: &mut [i64])
 fn lowered(potential: i64, greatest: i64) -> i64
     requires { potential ≤ℤ greatest }
     ensures at_most_0 { result ≤ℤ pos 0 }
-    ensures exact { neg_ℤ (pos shift_limit) ≤ℤ potential → greatest ≤ℤ pos shift_limit → result ≡ potential -ℤ greatest }
+    ensures exact { neg_ℤ (pos shift_limit) ≤ℤ potential → greatest ≤ℤ pos shift_limit
+        → result ≡ potential -ℤ greatest }
 {
     if potential < -SHIFT_LIMIT || greatest > SHIFT_LIMIT {
         i64::MIN
@@ -34,7 +35,7 @@ fn lowered(potential: i64, greatest: i64) -> i64
 
 /// The greatest of the potentials, or the least number where there is none.
 fn greatest_of(potentials: &[i64]) -> i64
-    ensures none_above { (v : ℕ) → v < length potentials.now → number_at potentials.now v ≤ℤ result }
+    ensures none_above { IsNoneAbove potentials.now result }
     ensures moderate { AreModerate potentials.now → result ≤ℤ pos shift_limit }
 {
     let mut greatest = i64::MIN;

@@ -1,10 +1,10 @@
-use Rattle.std.proofs.Common.{◌≡◌, ◌∙◌, ℕ, ap, length, subst, sym}
+use Rattle.std.proofs.Common.{◌≡◌, ◌∙◌, ℕ, ℤ, List, ap, length, refl, subst, sym}
 use Rattle.std.proofs.lemmas.List.{with_items_is}
 use Rattle.residual_graph.specs.Graph.{HasEntries}
-use Rattle.residual_graph.specs.Residual.{IsPseudoflow}
-use Rattle.augmentation.specs.Adoption.{IsCertifiedBy}
+use Rattle.residual_graph.specs.Residual.{AreGreatest, IsPseudoflow}
 use Rattle.augmentation.specs.Certificate.{AreCertifying}
 use Rattle.augmentation.specs.Exchange.{IsExchange}
+use Rattle.augmentation.specs.Pseudoflow.{IsReady}
 use Rattle.augmentation.specs.ScratchView.{ScratchView}
 use Rattle.augmentation.proofs.CertificateLemmas.{within_potentials}
 use Rattle.augmentation.proofs.ChangeLemmas.{pushes_of_change}
@@ -21,11 +21,13 @@ returns-clause-adopted c =
     let f = c.lead.new.excess in
     let p = c.certify.new.potentials in
     let n = c.in_ok-count.count in
-    let moved : IsExchange nodes rows n x e y f = c.in_ok-count.ensures.some in
+    let moved : IsExchange nodes rows n x e y f = c.in_ok-count.ensures.led.exchange in
     let sized : length p ≡ nodes = c.certify.ensures.same_length ∙ ap length (c.deref_mut-2.ensures.value ∙ ap (λ (v : ScratchView). v.potentials) c.scratch.view_is) ∙ sym c.requires.ready.state.excess_in in
-    let certifying : AreCertifying rows y p = c.in-Some.ensures.some in
-    let is : IsCertifiedBy c.args.graph.now n x e y f p = record {
-      ready = record {
+    let certificate = c.in-Some.ensures.some in
+    let certifying : AreCertifying rows y p = certificate.certifying in
+    let stands = sym (with_items_is c.scratch.inside.potentials p (c.certify.auto.potentials ∙ c.deref_mut-2.ensures.len)) in
+    record {
+      ready = subst (λ (q : List ℤ). IsReady c.args.graph.now y q f) stands (record {
         state = record {
           graph = subst (λ (m : ℕ). HasEntries m c.args.graph.now) (sym (sized ∙ c.requires.ready.state.excess_in)) c.requires.ready.state.graph;
           certified = record {
@@ -37,7 +39,8 @@ returns-clause-adopted c =
           small = small_nearer e f moved.change.small moved.change.nearer;
         };
         in_range = certifying.0;
-      };
+      });
       pushes = pushes_of_change nodes rows x e y f moved.ranks moved.change n moved.units;
-    } in
-    subst (IsCertifiedBy c.args.graph.now n x e y f) (sym (with_items_is c.scratch.inside.potentials p (c.certify.auto.potentials ∙ c.deref_mut-2.ensures.len))) is
+      greatest = λ told. subst (AreGreatest rows y) stands (certificate.greatest told);
+      unmarked = refl;
+    }

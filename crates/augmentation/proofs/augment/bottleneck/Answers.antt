@@ -18,13 +18,13 @@ room_at_least_0 a x Backward within = omega (arith, ints, within.low_kept)
 
 pub loop-node-preserved : goal.loop-node-preserved
 loop-node-preserved c =
-    let rows = c.args.graph.now.rows in
+    let rows = c.args.path.graph.now.rows in
     let x = c.args.flow.now in
-    let s = c.args.predecessors.now in
+    let s = c.args.path.predecessors.now in
     let v = c.loop-node.node in
     let h = hop_to s v in
     let inv = c.loop-node.invariant in
-    let came = c.requires.hung v inv.reached (omega arith) in
+    let came = c.requires.path.hung v inv.reached (omega arith) in
     let hop_is : c.arc-hop.result ≡ h = c.arc-hop.ensures in
     let row_is : c.row-row.result ≡ row_at rows h.arc = c.row-row.ensures ∙ ap (λ (a : ResidualArc). row_at rows a.arc) hop_is in
     let at_node : c.start-node.result ≡ before rows s v = c.start-node.ensures ∙ (λ i. start_of (row_is i) (hop_is i).way) in
@@ -40,10 +40,10 @@ loop-node-preserved c =
       at_least_0 = omega (arith, ints, clamps, same, c.min-room.ensures.value, inv.at_least_0, room_at_least_0 _ _ h.way low, room_is);
       some = λ paths. omega (arith, ints, clamps, same, c.min-room.ensures.value, inv.some paths, (paths v inv.reached (omega arith)).residual.has_room, room_is);
       at_most = omega (arith, ints, below, inv.at_most);
-      root = ap (root_to rows s) at_node ∙ sym (root_back rows s c.requires.hung v inv.reached (omega arith)) ∙ inv.root;
+      root = ap (root_to rows s) at_node ∙ sym (root_back rows s c.requires.path.hung v inv.reached (omega arith)) ∙ inv.root;
       room = (
         h ∷ inv.room.0,
-        ap (λ (u : ℕ). hops_before rows s (rank_at s u) u (h ∷ inv.room.0)) at_node ∙ sym (step_back rows s c.requires.hung v inv.room.0 inv.reached (omega arith)) ∙ inv.room.1,
+        ap (λ (u : ℕ). hops_before rows s (rank_at s u) u (h ∷ inv.room.0)) at_node ∙ sym (step_back rows s c.requires.path.hung v inv.room.0 inv.reached (omega arith)) ∙ inv.room.1,
         (omega (arith, ints, clamps, same, c.min-room.ensures.value, room_is), HasRoom-weaker rows x (to_z w64 c.loop-node.room-bits) _ inv.room.0 below inv.room.2),
       );
     }

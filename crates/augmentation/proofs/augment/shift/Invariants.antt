@@ -9,9 +9,9 @@ use Rattle.augmentation.proofs.augment.shift.Given as goal
 abbrev pub invariant-loop-node : goal.invariant-loop-node
 invariant-loop-node l = record {
   written : IsWritten l.initial.flow l.flow;
-  hops : (hops : List ResidualArc) × (hops_before l.graph.rows l.predecessors (rank_at l.predecessors l.node) l.node hops ≡ path_to l.graph.rows l.predecessors l.target)
-      × IsOnward l.graph.rows l.predecessors l.target l.node hops × (l.flow.entries ≡ push_along hops l.amount l.initial.flow.entries);
+  hops : (hops : List ResidualArc) × (hops_before l.path.graph.now.rows l.path.predecessors.now (rank_at l.path.predecessors.now l.node) l.node hops ≡ path_to l.path.graph.now.rows l.path.predecessors.now l.path.target)
+      × IsOnward l.path.graph.now.rows l.path.predecessors.now l.path.target l.node hops × (l.flow.entries ≡ push_along hops l.amount l.initial.flow.entries);
 }
 
 abbrev pub decreases-loop-node : goal.decreases-loop-node
-decreases-loop-node l = rank_at l.predecessors l.node
+decreases-loop-node l = rank_at l.path.predecessors.now l.node

@@ -1,4 +1,4 @@
-use Rattle.std.proofs.Common.{◌≡◌, ◌<◌, ℕ, ℤ, List, arith, length, rules, subst, sym, w64, to_z, of_z, SFits, ◌-ℤ◌}
+use Rattle.std.proofs.Common.{◌≡◌, ◌<◌, ℕ, ℤ, List, arith, length, refl, rules, subst, sym, w64, to_z, of_z, SFits, ◌-ℤ◌}
 use Rattle.std.proofs.lemmas.Int.{ints, clamps, to_z-of_z}
 use Rattle.dimacs_text.specs.declared.problem.ArcRow.{ArcRow}
 use Rattle.residual_graph.specs.Residual.{IsPseudoflow, IsRow, IsWithinRow, number_at, row_at}
@@ -51,19 +51,11 @@ overflow_sub-amount c =
     omega (arith, ints, is.flow_is, is.row.low_at_least_0, is.row.cap_in, is.within.low_kept, is.within.cap_kept, is.before.low_kept, is.before.cap_kept)
 
 pub move_excess-requires : goal.move_excess-requires
-move_excess-requires c = record { row = (is_goal (goal.at.move_excess-requires c).After-min-goal).row; journal = c.requires.excess_journal }
+move_excess-requires c = record { row = (is_goal (goal.at.move_excess-requires c).After-min-goal).row; journal = c.requires.draft.excess }
 
-pub returns-clause-flow : goal.returns-clause-flow
-returns-clause-flow c =
-    let is = is_goal (goal.at.returns-clause-flow c).After-min-goal in
-    let rows = c.args.graph.now.rows in
-    let z = to_z w64 (of_z w64 c.min-goal.result) in
-    let within : IsWithinRow (row_at rows c.args.change.now.arc) z = subst (λ (b : ArcRow). IsWithinRow b z) c.row-row.ensures is.within in
-    subst (λ (n : ℕ). IsPseudoflow n rows c.write.new.table) (sym c.move_excess.ensures.led.same_length) (subst (IsPseudoflow (length c.args.excess.now) rows) (sym c.write.ensures.table) (IsFlow-set c.requires.flow c.args.change.now.arc z is.lt within))
-
-pub returns-clause-excess : goal.returns-clause-excess
-returns-clause-excess c = λ yes.
-    (let is = is_goal (goal.at.returns-clause-excess c).After-min-goal in
+pub returns : goal.returns
+returns c =
+    let is = is_goal (goal.at.returns c).After-min-goal in
     let rows = c.args.graph.now.rows in
     let k = c.args.change.now.arc in
     let x = c.args.flow.now in
@@ -71,5 +63,13 @@ returns-clause-excess c = λ yes.
     let e = c.args.excess.now in
     let f = c.move_excess.new.excess in
     let m = z -ℤ number_at x k in
-    let moved : IsTransfer c.row-row.result.tail c.row-row.result.head m e f = subst (λ (n : ℤ). IsTransfer c.row-row.result.tail c.row-row.result.head n e f) (omega (arith, ints, is.flow_is, is.row.low_at_least_0, is.row.cap_in, is.within.low_kept, is.within.cap_kept, is.before.low_kept, is.before.cap_kept)) (c.move_excess.ensures.moved yes) in
-    subst (λ (y : List ℤ). IsExcessAfter rows x e y f) (sym c.write.ensures.table) (after-set rows x e f k z is.lt c.requires.flow.same_length (subst (λ (b : ArcRow). IsTransfer b.tail b.head m e f) c.row-row.ensures moved)))
+    let within : IsWithinRow (row_at rows k) z = subst (λ (b : ArcRow). IsWithinRow b z) c.row-row.ensures is.within in
+    record {
+      flow = subst (λ (n : ℕ). IsPseudoflow n rows c.write.new.table) (sym c.move_excess.ensures.led.same_length) (subst (IsPseudoflow (length e) rows) (sym c.write.ensures.table) (IsFlow-set c.requires.flow k z is.lt within));
+      flow_led = c.write.ensures.led;
+      excess_led = c.move_excess.ensures.led;
+      order = refl;
+      excess = λ yes.
+          (let moved : IsTransfer c.row-row.result.tail c.row-row.result.head m e f = subst (λ (n : ℤ). IsTransfer c.row-row.result.tail c.row-row.result.head n e f) (omega (arith, ints, is.flow_is, is.row.low_at_least_0, is.row.cap_in, is.within.low_kept, is.within.cap_kept, is.before.low_kept, is.before.cap_kept)) (c.move_excess.ensures.moved yes) in
+          subst (λ (y : List ℤ). IsExcessAfter rows x e y f) (sym c.write.ensures.table) (after-set rows x e f k z is.lt c.requires.flow.same_length (subst (λ (b : ArcRow). IsTransfer b.tail b.head m e f) c.row-row.ensures moved)));
+    }

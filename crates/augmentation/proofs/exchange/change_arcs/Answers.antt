@@ -1,31 +1,24 @@
-use Rattle.std.proofs.Common.{◌∙◌, refl}
-use Rattle.augmentation.proofs.ExchangeLemmas.{after-more, after-same, led_for, led_on, led_same}
+use Rattle.std.proofs.Common.{◌≡◌, subst}
+use Rattle.std.specs.Prelude.{Bool}
+use Rattle.augmentation.specs.Exchange.{AreChanged}
+use Rattle.augmentation.proofs.ExchangeLemmas.{changed_none, changed_on, draft_on}
 use Rattle.augmentation.proofs.exchange.change_arcs.Goals as goal
+use Rattle.augmentation.proofs.exchange.change_arcs.Goals.{After-change_arc}
 
 pub loop-change-init : goal.loop-change-init
-loop-change-init c = record {
-  flow = c.requires.flow;
-  flow_led = led_same c.args.draft.now.flow c.args.flow.now c.requires.flow_journal.journal;
-  excess_led = led_same c.args.draft.now.excess c.args.excess.now c.requires.excess_journal.journal;
-  order = refl;
-  excess = after-same c.args.graph.now.rows c.args.flow.now c.args.excess.now;
-}
+loop-change-init c = changed_none c.args.graph.now c.args.draft.now c.args.flow.now c.args.excess.now c.requires.flow c.requires.draft
 
 pub change_arc-requires : goal.change_arc-requires
-change_arc-requires c = record {
-  flow = c.loop-change.invariant.flow;
-  flow_journal = led_for c.requires.flow_journal c.loop-change.invariant.flow_led;
-  excess_journal = led_for c.requires.excess_journal c.loop-change.invariant.excess_led;
-}
+change_arc-requires c = record { flow = c.loop-change.invariant.flow; draft = draft_on c.requires.draft c.loop-change.invariant }
+
+-- with one change more
+more : (c : After-change_arc) (in_range : Bool) → c.change_arc.result ≡ in_range → AreChanged c.args.graph.now c.args.draft.now c.change_arc.new.draft c.args.flow.now c.args.excess.now c.change_arc.new.flow c.change_arc.new.excess in_range
+more c in_range is =
+    changed_on c.loop-change.invariant
+    (subst (AreChanged c.args.graph.now c.loop-change.draft c.change_arc.new.draft c.loop-change.flow c.loop-change.excess c.change_arc.new.flow c.change_arc.new.excess) is c.change_arc.ensures)
+
+pub returns-then-not-change_arc : goal.returns-then-not-change_arc
+returns-then-not-change_arc c = more (goal.at.returns-then-not-change_arc c).After-change_arc _ c.if-not-change_arc.true
 
 pub loop-change-preserved : goal.loop-change-preserved
-loop-change-preserved c =
-    let now = c.change_arc.ensures in
-    let inv = c.loop-change.invariant in
-    record {
-      flow = now.flow;
-      flow_led = led_on inv.flow_led now.flow_led;
-      excess_led = led_on inv.excess_led now.excess_led;
-      order = now.order ∙ inv.order;
-      excess = after-more c.args.graph.now.rows c.args.flow.now c.args.excess.now c.loop-change.flow c.loop-change.excess c.change_arc.new.flow c.change_arc.new.excess inv.excess (now.excess c.if-not-change_arc.false);
-    }
+loop-change-preserved c = more (goal.at.loop-change-preserved c).After-change_arc _ c.if-not-change_arc.false

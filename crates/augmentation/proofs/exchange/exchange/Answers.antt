@@ -9,10 +9,10 @@ use Rattle.augmentation.proofs.exchange.exchange.Goals.{After-change_arcs}
 
 -- the journals note the changes
 flow_since : (c : After-change_arcs) → IsSince c.change_arcs.new.draft.flow c.args.flow.now c.change_arcs.new.flow
-flow_since c = c.change_arcs.ensures.flow_led.since c.args.flow.now (c.clear.ensures.since c.args.flow.now c.requires.flow_journal.room)
+flow_since c = c.change_arcs.ensures.flow_led.since c.args.flow.now (c.clear.ensures.since c.args.flow.now c.requires.draft.flow.room)
 
 excess_since : (c : After-change_arcs) → IsSince c.change_arcs.new.draft.excess c.args.excess.now c.change_arcs.new.excess
-excess_since c = c.change_arcs.ensures.excess_led.since c.args.excess.now (c.clear-2.ensures.since c.args.excess.now c.requires.excess_journal.room)
+excess_since c = c.change_arcs.ensures.excess_led.since c.args.excess.now (c.clear-2.ensures.since c.args.excess.now c.requires.draft.excess.room)
 
 pub returns-clause-some : goal.returns-clause-some
 returns-clause-some c =

@@ -1,4 +1,4 @@
-use Rattle.std.proofs.Common.{◌≡◌, ◌∙◌, ◌<◌, ℕ, ℤ, List, Bool, false, length, pos, refl, sym, ap, subst, true}
+use Rattle.std.proofs.Common.{◌≡◌, ◌∙◌, ◌<◌, ℕ, ℤ, List, Bool, false, length, pos, refl, rules, sym, ap, subst, true}
 use Rattle.residual_graph.specs.Residual.{number_at}
 use Rattle.shortest_paths.specs.declared.predecessor.Predecessor.{Predecessor}
 use Rattle.tracked.specs.Marks.{in_set}
@@ -12,11 +12,15 @@ use Rattle.augmentation.proofs.held.holds.Goals.{After-rehung-rehung}
 held : (c : After-rehung-rehung) → AreHeld c.args.graph.now.rows c.args.flow.now.whole c.args.tree.now.held.labels c.args.tree.now.held.predecessors c.args.tree.now.held.noted c.args.tree.now.held.beside
 held c = c.requires.held (sym c.is_lost.ensures ∙ c.if-is_lost.false)
 
-pub hold_there-requires-clause-labels : goal.hold_there-requires-clause-labels
-hold_there-requires-clause-labels c =
-    let a = (goal.at.hold_there-requires-clause-labels c).After-rehung-rehung in
-    in_range_still c.args.tree.now.held.labels c.labels-labels.result.now c.relabelled-relabelled.result.now (held a).in_range
-    (λ v out. ap (λ (q : List ℤ). number_at q v) c.labels-labels.ensures ∙ c.relabelled-relabelled.ensures.elsewhere v out (pos 0)) (c.are_in_range_at.ensures c.if-not-are_in_range_at.false)
+pub hold_there-requires-clause-labelling : goal.hold_there-requires-clause-labelling
+hold_there-requires-clause-labelling c =
+    let a = (goal.at.hold_there-requires-clause-labelling c).After-rehung-rehung in
+    record {
+      flow = search rules;
+      labels = in_range_still c.args.tree.now.held.labels c.labels-labels.result.now c.relabelled-relabelled.result.now (held a).in_range
+          (λ v out. ap (λ (q : List ℤ). number_at q v) c.labels-labels.ensures ∙ c.relabelled-relabelled.ensures.elsewhere v out (pos 0)) (c.are_in_range_at.ensures c.if-not-are_in_range_at.false);
+      same_length = search rules;
+    }
 
 pub returns : goal.returns
 returns c = λ yes.

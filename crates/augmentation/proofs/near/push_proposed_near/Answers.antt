@@ -21,7 +21,7 @@ returns-clause-pushed c =
     let t = c.is_renewed.new.tree in
     let p = c.write_labels.new.table.entries in
     let n = c.in_ok-count.count in
-    let moved : IsExchange nodes rows n x e y f = c.in_ok-count.ensures.some in
+    let moved : IsExchange nodes rows n x e y f = c.in_ok-count.ensures.led.exchange in
     let sized : length p ≡ nodes = c.write_labels.ensures.written.same_length ∙ sym c.requires.ready.state.excess_in in
     let tested = c.is_renewed.ensures.tested c.if-not-is_renewed.false in
     let certifying : AreCertifying rows y p = subst (AreCertifying rows y) (sym c.write_labels.ensures.entries) tested.certifying in
@@ -47,7 +47,7 @@ returns-clause-pushed c =
 
 pub returns-clause-held : goal.returns-clause-held
 returns-clause-held c =
-    let moved = c.in_ok-count.ensures.some in
+    let moved = c.in_ok-count.ensures.led.exchange in
     let t = c.is_renewed.new.tree in
     held_by c.args.graph.now.rows c.lead.new.flow.whole c.lead.new.flow.entries t.labels t.predecessors c.places.result.now c.accept.new.self.held
     (omega (arith, moved.change.after.same_length, c.places.ensures.as_many)) c.accept.ensures.held_labels c.accept.ensures.held_predecessors c.places.ensures.all_named c.accept.ensures.noted (c.is_renewed.ensures.tested c.if-not-is_renewed.false)

@@ -1,4 +1,4 @@
-use Rattle.std.proofs.Common.{◌≡◌, ◌∙◌, ℤ, List, length, sym, ap, subst, pos}
+use Rattle.std.proofs.Common.{◌≡◌, ◌∙◌, ℤ, List, length, refl, sym, ap, subst, pos}
 use Rattle.std.specs.Prelude.{◌<ℤ◌}
 use Rattle.std.specs.Vec.{with_items}
 use Rattle.std.proofs.lemmas.List.{with_items_is}
@@ -28,7 +28,7 @@ is_pushed c =
     pushed_on c.args.graph.now x c.args.scratch.now.potentials c.args.excess.now c.args.scratch.now.predecessors t y f c.augment.result c.requires.forest c.requires.reached c.requires.state
     (λ yes. subst (λ (l : List Predecessor). IsAugmented rows l t x c.args.excess.now y f) (tables c)
     (subst (λ (g : List ℤ). IsAugmented rows c.deref.result.now t x g y f) (excesses c) (c.augment.ensures.pushed yes)))
-    (λ no. ((c.augment.ensures.none no).0, (c.augment.ensures.none no).1 ∙ excesses c))
+    (λ no. (c.augment.ensures.same_flow no, c.augment.ensures.same_excess no ∙ excesses c))
 
 excess_is : (c : After-augment) → (with_items c.excess.inside.entries c.augment.new.excess).items ≡ c.augment.new.excess
 excess_is c = with_items_is c.excess.inside.entries c.augment.new.excess (c.augment.auto.excess ∙ c.deref_mut.ensures.len)
@@ -45,15 +45,16 @@ invariant_of-excess c =
       c.excess.invariant.1 ∙ sized,
     )
 
-pub returns-clause-state : goal.returns-clause-state
-returns-clause-state c =
-    let a = (goal.at.returns-clause-state c).After-augment in
-    subst (IsCertifiedPseudoflow c.args.graph.now c.augment.new.flow.entries c.args.scratch.now.potentials) (sym (excess_is a)) (is_pushed a).state
-
 pub returns-clause-pushed : goal.returns-clause-pushed
 returns-clause-pushed c =
     let a = (goal.at.returns-clause-pushed c).After-augment in
-    subst (ArePushes c.args.graph.now.rows (one_if c.augment.result) c.args.flow.now.entries c.args.excess.now c.augment.new.flow.entries) (sym (excess_is a)) (is_pushed a).pushed
+    let y = c.augment.new.flow.entries in
+    record {
+      written = c.augment.ensures.written;
+      state = subst (IsCertifiedPseudoflow c.args.graph.now y c.args.scratch.now.potentials) (sym (excess_is a)) (is_pushed a).state;
+      held = refl;
+      pushes = subst (ArePushes c.args.graph.now.rows (one_if c.augment.result) c.args.flow.now.entries c.args.excess.now y) (sym (excess_is a)) (is_pushed a).pushed;
+    }
 
 pub returns-clause-some : goal.returns-clause-some
 returns-clause-some c = λ found.
@@ -61,7 +62,9 @@ returns-clause-some c = λ found.
     let rows = c.args.graph.now.rows in
     let x = c.args.flow.now.entries in
     let s = c.args.scratch.now.predecessors in
-    c.augment.ensures.some (subst (λ (l : List Predecessor). HavePaths rows x l) (sym (tables a)) found.search.paths)
-    (subst (λ (l : List Predecessor). pos 0 <ℤ number_at c.deref_mut.result.now (root_to rows l c.args.target)) (sym (tables a))
-    (subst (λ (e : List ℤ). pos 0 <ℤ number_at e (root_to rows s c.args.target)) (sym (excesses a))
-    (root_in_excess rows x c.args.scratch.now.potentials c.args.excess.now s c.args.target found))))
+    c.augment.ensures.some (record {
+      paths = subst (λ (l : List Predecessor). HavePaths rows x l) (sym (tables a)) found.search.paths;
+      gives = subst (λ (l : List Predecessor). pos 0 <ℤ number_at c.deref_mut.result.now (root_to rows l c.args.target)) (sym (tables a))
+          (subst (λ (e : List ℤ). pos 0 <ℤ number_at e (root_to rows s c.args.target)) (sym (excesses a))
+          (root_in_excess rows x c.args.scratch.now.potentials c.args.excess.now s c.args.target found));
+    }))

@@ -1,12 +1,14 @@
-use Rattle.std.proofs.Common.{◌+◌, ◌∙◌, ◌^◌, ◌<◌, ap, arith, rules}
+use Rattle.std.proofs.Common.{◌+◌, ◌∙◌, ◌^◌, ◌<◌, ap, arith, refl, rules}
 use Rattle.augmentation.specs.ScratchView.{ScratchView}
-use Rattle.augmentation.proofs.SettleLemmas.{ArePushes-more, count_fits}
-use Rattle.tracked.proofs.TrackedLemmas.{IsWritten-trans}
+use Rattle.augmentation.proofs.SettleLemmas.{HavePushed-more, HavePushed-none, count_fits}
 use Rattle.augmentation.proofs.pushes.push_to_all.Goals as goal
+
+pub loop-target-init : goal.loop-target-init
+loop-target-init c = record { pushed = HavePushed-none c.requires.state; forest = c.requires.forest; same = refl }
 
 pub overflow_add-pushes : goal.overflow_add-pushes
 overflow_add-pushes c =
-    let fits = count_fits c.requires.state (ArePushes-more c.loop-target.invariant.pushed c.push_all_to-pushes.ensures.pushed) in
+    let fits = count_fits c.requires.state (HavePushed-more c.loop-target.invariant.pushed c.push_all_to-pushes.ensures.pushed refl).pushes in
     let bound : c.loop-target.pushes + c.push_all_to-pushes.result < 2 ^ 64 = omega (arith, fits) in
     search (rules, bound)
 
@@ -15,9 +17,7 @@ loop-target-preserved c =
     let inv = c.loop-target.invariant in
     let call = c.push_all_to-pushes.ensures in
     record {
-      flow_written = IsWritten-trans _ _ _ inv.flow_written call.flow_written;
-      state = call.state;
+      pushed = HavePushed-more inv.pushed call.pushed refl;
       forest = call.forest;
       same = call.same ∙ ap (λ (v : ScratchView). record v { predecessors = c.push_all_to-pushes.new.scratch.predecessors }) inv.same;
-      pushed = ArePushes-more inv.pushed call.pushed;
     }
