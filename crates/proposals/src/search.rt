@@ -102,6 +102,11 @@ impl Search {
         self.settled_nodes
     }
 
+    /// How many nodes the last search settled.
+    pub fn width(&self) -> usize {
+        self.settled.listed().len()
+    }
+
     /// The most arcs on the path to a node that the search settled.
     pub fn levels(&self) -> u32 {
         deepest(&self.records, &self.settled)
