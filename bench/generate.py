@@ -215,6 +215,25 @@ def stars(draw, nodes, arcs):
     return problem.lines()
 
 
+def regions(draw, nodes, arcs):
+    """Two regions of no cost inside, joined by arcs of distinct costs, with sources in the one and sinks in the other."""
+    half = nodes // 2
+    links = max(1, arcs - 4 * half)
+    costs = list(range(1, links + 1))
+    draw.shuffle(costs)
+    ends = min(50, half)
+    problem = MinProblem(2 * half)
+    for node in range(2 * half):
+        first = node // half * half
+        for other in ((node + 1) % half, draw.randrange(half)):
+            problem.add(node + 1, first + other + 1, 0, 4 * links, 0)
+    for k, cost in enumerate(costs):
+        room = draw.randint(1, 3)
+        problem.ship(k % ends + 1, 2 * half - k % ends, room)
+        problem.add(draw.randint(1, half), half + draw.randint(1, half), 0, room, cost)
+    return problem.lines()
+
+
 def max_lines(nodes, source, sink, arcs):
     """The lines of a maximum flow problem."""
     yield f"p max {nodes} {len(arcs)}"
@@ -259,6 +278,7 @@ SETS = {
         "slope": slope,
         "stars": stars,
         "stars-turned": turned(stars),
+        "regions": regions,
     },
 }
 SHAPES = {name: shape for shapes in SETS.values() for name, shape in shapes.items()}
