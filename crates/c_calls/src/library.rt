@@ -4,7 +4,7 @@ ghost use Rattle.std.specs.Prelude.{◌≡◌, IfErr, IfOk, OnOk};
 ghost use Rattle.std.specs.Option.{option_map};
 ghost use Rattle.dimacs_text.specs.declared.command.Command.TheVariants.{Redo, Undo};
 ghost use Rattle.session.specs.Reply.{reply_of};
-ghost use Rattle.session.specs.Session.{kind_in};
+ghost use Rattle.session.specs.Session.{present_kind};
 ghost use Rattle.session.specs.Step.{StepBy, state_of};
 ghost use Rattle.c_calls.specs.Library.{IsNotOpened, IsOpening, ReadsAs, Steps, TakesNext, told_of};
 
@@ -59,7 +59,7 @@ pub fn open_session(
 pub fn take_line(session: &mut Session, group: &mut Option<Group>, line: &[u8]) -> u8
     ensures took { TakesNext group.old line.now group.new
         (state_of session.old) result (state_of session.new) }
-    ensures kind { kind_in session.new.moments ≡ kind_in session.old.moments }
+    ensures kind { present_kind session.new.moments ≡ present_kind session.old.moments }
 {
     if line.len() > LINE_LIMIT {
         return told(session.take_line(group, None));
@@ -73,7 +73,7 @@ pub fn take_line(session: &mut Session, group: &mut Option<Group>, line: &[u8]) 
 /// Goes back one moment.
 pub fn undo(session: &mut Session) -> u8
     ensures steps { Steps (StepBy Undo (state_of session.old)) result (state_of session.new) }
-    ensures kind { kind_in session.new.moments ≡ kind_in session.old.moments }
+    ensures kind { present_kind session.new.moments ≡ present_kind session.old.moments }
 {
     told(Some(session.step(&Command::Undo)))
 }
@@ -81,7 +81,7 @@ pub fn undo(session: &mut Session) -> u8
 /// Goes on one moment.
 pub fn redo(session: &mut Session) -> u8
     ensures steps { Steps (StepBy Redo (state_of session.old)) result (state_of session.new) }
-    ensures kind { kind_in session.new.moments ≡ kind_in session.old.moments }
+    ensures kind { present_kind session.new.moments ≡ present_kind session.old.moments }
 {
     told(Some(session.step(&Command::Redo)))
 }

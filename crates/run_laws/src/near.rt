@@ -6,7 +6,7 @@ ghost use Rattle.network.specs.Edited.{units_all};
 ghost use Rattle.flow_solver.specs.Answer.{IsAnswered};
 ghost use Rattle.flow_solver.specs.declared.verdict.Verdict.TheVariants.{Best};
 ghost use Rattle.plan_laws.specs.Stability.{IsLeftOut, MovesWithin, edits_of};
-ghost use Rattle.session.specs.Session.{kind_in};
+ghost use Rattle.session.specs.Session.{present_kind};
 ghost use Rattle.session.specs.Step.{SessionState};
 ghost use Rattle.engines.specs.Run.{Run};
 ghost use Rattle.run_laws.specs.Near.{groups_of};
@@ -18,6 +18,6 @@ ghost use Rattle.run_laws.specs.Undone.{AllTurns, MakesEdits, NoneRefuses};
 pub fn runs_move_little()
     ensures { (old new : SessionState) (changes : List Turn) (told : List (List ℕ)) (k : ℕ) (worth : ℤ)
         → IsAnswered old.moments.present → old.moments.present.verdict ≡ Best worth → AllTurns MakesEdits changes → NoneRefuses told → Run old changes told new
-        → IsLeftOut old.moments.present.instance (edits_of (groups_of (kind_in old.moments) changes)) k
-        → MovesWithin (pos (units_all old.moments.present.instance (edits_of (groups_of (kind_in old.moments) changes)))) k old.moments.present new.moments.present }
+        → IsLeftOut old.moments.present.instance (edits_of (groups_of (present_kind old.moments) changes)) k
+        → MovesWithin (pos (units_all old.moments.present.instance (edits_of (groups_of (present_kind old.moments) changes)))) k old.moments.present new.moments.present }
 {}

@@ -10,7 +10,7 @@ use Rattle.history.proofs.Timelines.{all_boards_back, all_boards_forward}
 use Rattle.flow_solver.specs.Moment.{Moment}
 use Rattle.session.specs.declared.marks.Mark.{Mark}
 use Rattle.session.specs.Marks.{has_name, marked, IsMovedTo, AreOn, up_to, with_mark}
-use Rattle.session.specs.Record.{Recorded, swapped}
+use Rattle.session.specs.Record.{Recorded, with_record}
 
 module _ {B : Type 0} where
   -- how many boards there are
@@ -43,15 +43,15 @@ module _ {B : Type 0} where
 
 module _ (h k : Changes Recorded) (m d : Moment) (marks : List Mark) where
   -- marks stay on the same boards
-  pub stays : all_boards (boards swapped k d) ≡ all_boards (boards swapped h m) → AreOn (boards swapped h m) marks → AreOn (boards swapped k d) marks
+  pub stays : all_boards (boards with_record k d) ≡ all_boards (boards with_record h m) → AreOn (boards with_record h m) marks → AreOn (boards with_record k d) marks
   stays same on = rw same on
 
-pub stays_back : (moved : Bool) (h k : Changes Recorded) (m d : Moment) (marks : List Mark) → OnTrue moved (StepsBack (boards swapped h m) (boards swapped k d)) → OnFalse moved (k ≡ h) → OnFalse moved (d ≡ m) → AreOn (boards swapped h m) marks → AreOn (boards swapped k d) marks
-stays_back true h k m d marks step same same_board on = stays h k m d marks (all_boards_back (boards swapped h m) (boards swapped k d) step) on
+pub stays_back : (moved : Bool) (h k : Changes Recorded) (m d : Moment) (marks : List Mark) → OnTrue moved (StepsBack (boards with_record h m) (boards with_record k d)) → OnFalse moved (k ≡ h) → OnFalse moved (d ≡ m) → AreOn (boards with_record h m) marks → AreOn (boards with_record k d) marks
+stays_back true h k m d marks step same same_board on = stays h k m d marks (all_boards_back (boards with_record h m) (boards with_record k d) step) on
 stays_back false h k m d marks step same same_board on = rw (same, same_board) on
 
-pub stays_on : (moved : Bool) (h k : Changes Recorded) (m d : Moment) (marks : List Mark) → OnTrue moved (StepsForward (boards swapped h m) (boards swapped k d)) → OnFalse moved (k ≡ h) → OnFalse moved (d ≡ m) → AreOn (boards swapped h m) marks → AreOn (boards swapped k d) marks
-stays_on true h k m d marks step same same_board on = stays h k m d marks (all_boards_forward (boards swapped h m) (boards swapped k d) step) on
+pub stays_on : (moved : Bool) (h k : Changes Recorded) (m d : Moment) (marks : List Mark) → OnTrue moved (StepsForward (boards with_record h m) (boards with_record k d)) → OnFalse moved (k ≡ h) → OnFalse moved (d ≡ m) → AreOn (boards with_record h m) marks → AreOn (boards with_record k d) marks
+stays_on true h k m d marks step same same_board on = stays h k m d marks (all_boards_forward (boards with_record h m) (boards with_record k d) step) on
 stays_on false h k m d marks step same same_board on = rw (same, same_board) on
 
 -- only such marks stay

@@ -10,13 +10,13 @@ use Rattle.flow_solver.specs.Moment.{Moment}
 use Rattle.session.specs.declared.marks.Mark.{Mark}
 use Rattle.session.specs.Parts.{Named, named, flow_of, IsOneEnd}
 use Rattle.session.proofs.Supplies.{has_supply}
-use Rattle.session.specs.Record.{Recorded, RecordFits, Differs, swapped, turned}
+use Rattle.session.specs.Record.{Recorded, RecordFits, Differs, with_record, record_turned}
 use Rattle.session.specs.RecordLaws.{flow_of-swapped, flows_came, go_there}
-use Rattle.session.specs.Session.{stack_of, moment_at, IsKept, IsRecord, PartsTell}
+use Rattle.session.specs.Session.{stack_of, moment_at, IsHistoryAt, IsRecord, PartsTell}
 use Rattle.session.proofs.Exact.{exact_difference, exact_exchange}
 
 -- the parts name places of the moment, and tell of the one that the record leads to
-parts_tell : (r : Recorded) (m : Moment) → RecordFits r m → PartsTell r.parts m (swapped r m)
+parts_tell : (r : Recorded) (m : Moment) → RecordFits r m → PartsTell r.parts m (with_record r m)
 parts_tell r m fits =
     let fit = fits.parts.fit in
     let D = m.instance.demand in
@@ -36,7 +36,7 @@ flows_end : (N : Named) → IsOneEnd N → length N.come_flows ≡ length N.come
 flows_end N (inl none) same = inl none
 flows_end N (inr none) same = inr (nil_from_length N.come_flows (omega (arith, same, ap length none)))
 
-pub is_record : (r : Recorded) (m : Moment) → RecordFits r m → Differs r m → IsRecord r m (swapped r m)
+pub is_record : (r : Recorded) (m : Moment) → RecordFits r m → Differs r m → IsRecord r m (with_record r m)
 is_record r m fits differs =
     let N : Named = named r.parts in
     record {
@@ -64,13 +64,13 @@ moved_there rs i (Some r) is = elim (slice_get_cases rs i).1 [
       cc
 ]
 
-module _ (h : Changes Recorded) (m : Moment) (marks : List Mark) (kept : IsKept h m) (i : ℕ) where
+module _ (h : Changes Recorded) (m : Moment) (marks : List Mark) (kept : IsHistoryAt h m) (i : ℕ) where
   pub moved_past : (o : Option (Bor Recorded)) → option_copied o ≡ slice_get (all_changes h) i → i < length h.past → IfSome o (λ r. IsRecord r.now (moment_at (stack_of h m marks) (i + 1)) (moment_at (stack_of h m marks) i))
   moved_past None is below = tt
   moved_past (Some r) is below =
       let read = get_or_from_slice_get (all_changes h) i r.now r.now (sym is) in
-      let fits = holds_past RecordFits turned swapped h m kept.stands i r.now m below in
-      let exact = holds_past Differs turned swapped h m kept.exact i r.now m below in
+      let fits = holds_past RecordFits record_turned with_record h m kept.stands i r.now m below in
+      let exact = holds_past Differs record_turned with_record h m kept.exact i r.now m below in
       rw read at (rw fits.1 at (is_record (get_or (all_changes h) i r.now) _ fits.0 exact.0))
 
   pub moved_future : (o : Option (Bor Recorded)) → option_copied o ≡ slice_get (all_changes h) i → length h.past ≤ i → IfSome o (λ r. IsRecord r.now (moment_at (stack_of h m marks) i) (moment_at (stack_of h m marks) (i + 1)))
@@ -78,6 +78,6 @@ module _ (h : Changes Recorded) (m : Moment) (marks : List Mark) (kept : IsKept 
   moved_future (Some r) is above =
       let below = slice_get_within (all_changes h) i r.now (sym is) in
       let read = get_or_from_slice_get (all_changes h) i r.now r.now (sym is) in
-      let fits = holds_future RecordFits turned swapped h m kept.stands i r.now m above below in
-      let exact = holds_future Differs turned swapped h m kept.exact i r.now m above below in
+      let fits = holds_future RecordFits record_turned with_record h m kept.stands i r.now m above below in
+      let exact = holds_future Differs record_turned with_record h m kept.exact i r.now m above below in
       rw read at (rw fits.1 at (is_record (get_or (all_changes h) i r.now) _ fits.0 exact.0))

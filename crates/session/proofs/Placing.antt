@@ -21,9 +21,9 @@ use Rattle.session.specs.Places.{taken}
 use Rattle.session.specs.EndingLaws.{length-end_of}
 use Rattle.session.specs.Parts.{Named, named, listed, supply_parts, arc_parts, gone_parts, named_turned, no_row, NamedFit}
 use Rattle.session.specs.PartsLaws.{turned_flows}
-use Rattle.session.specs.Group.{arcs_of, added, valued, AreNames, ArePartsOf}
-use Rattle.session.specs.Record.{Recorded, swapped, turned, RecordFits}
-use Rattle.session.specs.Session.{Place, OfArc, OfNode, OfNewArc, place_of_part, places_of, place_of_edit, IsKept}
+use Rattle.session.specs.Group.{arcs_of, arcs_added, valued, AreNames, ArePartsOf}
+use Rattle.session.specs.Record.{Recorded, with_record, record_turned, RecordFits}
+use Rattle.session.specs.Session.{InstancePlace, OfArc, OfNode, OfNewArc, place_of_part, places_of, place_of_edit, IsHistoryAt}
 
 -- ---- the places of a group of one
 
@@ -48,10 +48,10 @@ names_one (x ∷ y ∷ names) k are =
     is_one k x (suc i, below, is) = absurd (omega arith)
 
 -- the places of parts that name these nodes and arcs, and arcs that were added
-places_named : (I : Instance) (edits : List Edit) (ps : List Part) (are : ArePartsOf edits I ps) (nodes arcs : List ℕ) → are.nodes ≡ nodes → are.arcs ≡ arcs → map place_of_part ps ≡ map place_of_part (listed (record { supplies = valued nodes (supplies_in I.demand) (pos 0); rows = valued arcs I.arcs no_row; come_rows = []; come_flows = []; go = added edits }))
+places_named : (I : Instance) (edits : List Edit) (ps : List Part) (are : ArePartsOf edits I ps) (nodes arcs : List ℕ) → are.nodes ≡ nodes → are.arcs ≡ arcs → map place_of_part ps ≡ map place_of_part (listed (record { supplies = valued nodes (supplies_in I.demand) (pos 0); rows = valued arcs I.arcs no_row; come_rows = []; come_flows = []; go = arcs_added edits }))
 places_named I edits ps are nodes arcs same_nodes same_arcs =
     ap (map place_of_part) are.parts
-    ∙ ap₂ (λ (ns ks : List ℕ). map place_of_part (listed (record { supplies = valued ns (supplies_in I.demand) (pos 0); rows = valued ks I.arcs no_row; come_rows = []; come_flows = []; go = added edits }))) same_nodes same_arcs
+    ∙ ap₂ (λ (ns ks : List ℕ). map place_of_part (listed (record { supplies = valued ns (supplies_in I.demand) (pos 0); rows = valued ks I.arcs no_row; come_rows = []; come_flows = []; go = arcs_added edits }))) same_nodes same_arcs
 
 -- the arc of an edit is one of those there
 one_arc : (n k : ℕ) (names : List ℕ) → k ≤ n → AreNames names (arcs_of n (edits.Close k ∷ [])) → names ≡ k ∷ []
@@ -70,10 +70,10 @@ one_place edit I J ps accepted are = by edit ps are (changed_by_edit I edit J ac
 
 -- ---- a turned record names the same places
 
-abbrev nodes_at : List (ℕ × ℤ) → List Place
+abbrev nodes_at : List (ℕ × ℤ) → List InstancePlace
 nodes_at places = map (λ p. OfNode p.0) places
 
-abbrev arcs_at : List (ℕ × ArcRow) → List Place
+abbrev arcs_at : List (ℕ × ArcRow) → List InstancePlace
 arcs_at places = map (λ p. OfArc p.0) places
 
 at_nodes : (places : List (ℕ × ℤ)) (qs : List Part) → map place_of_part (supply_parts places ++ qs) ≡ nodes_at places ++ map place_of_part qs
@@ -105,7 +105,7 @@ arcs_taken : (places : List (ℕ × ArcRow)) (xs : List ArcRow) → arcs_at (tak
 arcs_taken [] xs = refl
 arcs_taken (p ∷ places) xs = ap (λ at. OfArc p.0 ∷ at) (arcs_taken places xs)
 
-places_turned : (r : Recorded) (m : Moment) → RecordFits r m → places_of (turned r m) ≡ places_of r
+places_turned : (r : Recorded) (m : Moment) → RecordFits r m → places_of (record_turned r m) ≡ places_of r
 places_turned r m fits =
     let N : Named = named r.parts in
     let fit : NamedFit N m.instance = fits.parts.fit in
@@ -121,19 +121,19 @@ one_turned : (xs ys : List Recorded) (a b : Recorded) → places_of a ≡ places
 one_turned [] ys a b same = ap (λ at. at ∷ map places_of ys) same
 one_turned (x ∷ xs) ys a b same = ap (λ at. places_of x ∷ at) (one_turned xs ys a b same)
 
-pub places_back : (moved : Bool) (old new : Changes Recorded) (m d : Moment) → IsKept old m → OnTrue moved (MovesBack turned swapped old new m d) → OnFalse moved (new ≡ old) → map places_of (all_changes new) ≡ map places_of (all_changes old)
+pub places_back : (moved : Bool) (old new : Changes Recorded) (m d : Moment) → IsHistoryAt old m → OnTrue moved (MovesBack record_turned with_record old new m d) → OnFalse moved (new ≡ old) → map places_of (all_changes new) ≡ map places_of (all_changes old)
 places_back true old new m d kept (c, past, future, is_d) same =
     let fit = (rw (ap reverse past ∙ reverse-append new.past (c ∷ [])) at kept.stands.back).0 in
     ap (λ rs. map places_of (new.past ++ rs)) future
-    ∙ one_turned new.past old.future (turned c m) c (places_turned c m fit)
+    ∙ one_turned new.past old.future (record_turned c m) c (places_turned c m fit)
     ∙ ap (map places_of) (sym (append_assoc new.past (c ∷ []) old.future) ∙ ap (λ rs. rs ++ old.future) (sym past))
 places_back false old new m d kept moves same = ap (λ (h : Changes Recorded). map places_of (all_changes h)) same
 
-pub places_forward : (moved : Bool) (old new : Changes Recorded) (m d : Moment) → IsKept old m → OnTrue moved (MovesForward turned swapped old new m d) → OnFalse moved (new ≡ old) → map places_of (all_changes new) ≡ map places_of (all_changes old)
+pub places_forward : (moved : Bool) (old new : Changes Recorded) (m d : Moment) → IsHistoryAt old m → OnTrue moved (MovesForward record_turned with_record old new m d) → OnFalse moved (new ≡ old) → map places_of (all_changes new) ≡ map places_of (all_changes old)
 places_forward true old new m d kept (c, future, past, is_d) same =
     let fit = (rw future at kept.stands.forward).0 in
     ap (λ rs. map places_of (rs ++ new.future)) past
-    ∙ ap (map places_of) (append_assoc old.past (turned c m ∷ []) new.future)
-    ∙ one_turned old.past new.future (turned c m) c (places_turned c m fit)
+    ∙ ap (map places_of) (append_assoc old.past (record_turned c m ∷ []) new.future)
+    ∙ one_turned old.past new.future (record_turned c m) c (places_turned c m fit)
     ∙ ap (λ rs. map places_of (old.past ++ rs)) (sym future)
 places_forward false old new m d kept moves same = ap (λ (h : Changes Recorded). map places_of (all_changes h)) same

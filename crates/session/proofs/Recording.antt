@@ -20,16 +20,16 @@ use Rattle.session.specs.Group.{nodes_of, arcs_of, AreNames, ArePartsOf, ArePlac
 use Rattle.session.specs.Places.{exchanged, PlacesFit, AreFound, ended}
 use Rattle.session.specs.PlacesLaws.{length-exchanged}
 use Rattle.session.specs.Parts.{Named, named, flow_of, demand_swapped, instance_swapped}
-use Rattle.session.specs.Record.{Recorded, swapped, IsInRange, IsMark, RecordFits, Differs}
+use Rattle.session.specs.Record.{Recorded, with_record, IsMomentInRange, IsMark, RecordFits, Differs}
 use Rattle.session.specs.ReturnLaws.{returned-swapped, verdict_fits-swapped}
 use Rattle.session.proofs.Returns.{length-numbered}
 use Rattle.session.specs.RecordLaws.{moment_is}
 use Rattle.session.specs.Session.{AreAcceptedEdits}
-use Rattle.session.proofs.Leading.{KeepLawful, LeadsBack, leads_back, nodes_are_there, arcs_are_there}
+use Rattle.session.proofs.Leading.{KeepLawful, PartsLeadBack, leads_back, nodes_are_there, arcs_are_there}
 use Rattle.session.proofs.Names.{names_are}
 
 -- an answered moment is within the limits
-pub in_range_answered : (m : Moment) → IsAnswered m → IsInRange m
+pub in_range_answered : (m : Moment) → IsAnswered m → IsMomentInRange m
 in_range_answered m answered =
     let sized = answered.sized in
     record {
@@ -68,7 +68,7 @@ module _ {X : Type 0} (places : List (ℕ × X)) (old new : List X) (found : Are
 -- the record of what is found after edits
 pub record IsRecordOf (r : Recorded) (m old : Moment) : Type 0 where
   pub fits : RecordFits r m
-  pub leads : swapped r m ≡ old
+  pub leads : with_record r m ≡ old
   pub exact : Differs r m
 
 nodes_same : (N : Named) (I J : Instance) → instance_swapped N J ≡ I → J.nodes ≡ I.nodes
@@ -87,7 +87,7 @@ told_before N I before verdict back fits = rw (← verdict_fits-swapped N.suppli
 returned_before : (N : Named) (I before : Instance) (verdict : Verdict) → instance_swapped N I ≡ before → returned I.demand verdict ≡ returned before.demand verdict
 returned_before N I before verdict back = sym (returned-swapped N.supplies I.demand verdict) ∙ ap (λ (J : Instance). returned J.demand verdict) back
 
-pub is_record_of : (parts : List Part) (old m : Moment) (flows potentials : List (ℕ × ℤ)) (marks : List (ℕ × Bool)) → IsAnswered old → IsAnswered m → LeadsBack parts old.instance m.instance → AreFound flows (flow_of old) (flow_of m) (length (flow_of old)) → AreFound potentials old.potentials m.potentials (length old.potentials) → AreFound marks old.cut m.cut (length old.cut) → IsRecordOf (record { parts = parts; flows = flows; potentials = potentials; marks = marks; verdict = old.verdict }) m old
+pub is_record_of : (parts : List Part) (old m : Moment) (flows potentials : List (ℕ × ℤ)) (marks : List (ℕ × Bool)) → IsAnswered old → IsAnswered m → PartsLeadBack parts old.instance m.instance → AreFound flows (flow_of old) (flow_of m) (length (flow_of old)) → AreFound potentials old.potentials m.potentials (length old.potentials) → AreFound marks old.cut m.cut (length old.cut) → IsRecordOf (record { parts = parts; flows = flows; potentials = potentials; marks = marks; verdict = old.verdict }) m old
 is_record_of parts old m flows potentials marks old_answered answered leads flows_found potentials_found marks_found =
     let kept = in_range_answered m answered in
     let was = in_range_answered old old_answered in
@@ -105,7 +105,7 @@ is_record_of parts old m flows potentials marks old_answered answered leads flow
         potentials = fit_found potentials old.potentials m.potentials potentials_found IsPotential (length m.potentials) same_potentials was.potentials;
         marks = fit_found marks old.cut m.cut marks_found IsMark (length m.cut) same_marks (λ i d below. tt);
       };
-      leads = moment_is old (swapped (record { parts = parts; flows = flows; potentials = potentials; marks = marks; verdict = old.verdict }) m)
+      leads = moment_is old (with_record (record { parts = parts; flows = flows; potentials = potentials; marks = marks; verdict = old.verdict }) m)
           leads.back
           (ap (λ (xs : List ℤ). returned m.instance.demand old.verdict ++ ended N.go xs (exchanged flows (flow_of m))) leads.no_flows
           ∙ ap (λ (xs : List ℤ). returned m.instance.demand old.verdict ++ xs) (ended_found flows (flow_of old) (flow_of m) flows_found N.go shared_is)
@@ -157,7 +157,7 @@ module _ (keep : KeepLawful) (before : Option Moment) (m : Moment) (edits : List
       (arcs_are_there (length was_moment.instance.arcs) edits was_moment.instance m.instance keep (omega arith) was_lawful change.accepted)
 
   module _ (parts : List Part) (are : ArePartsOf edits was_moment.instance parts) where
-    back : LeadsBack parts was_moment.instance m.instance
+    back : PartsLeadBack parts was_moment.instance m.instance
     back = leads_back keep edits was_moment.instance m.instance parts was_lawful (in_range_answered m change.after).lawful change.accepted are
 
     pub fewer_flows : (xs ys : List ℤ) → IfSome before (λ old. xs ≡ flow_of old) → ys ≡ flow_of m → length xs ≤ length ys
@@ -199,7 +199,7 @@ module _ (keep : KeepLawful) (before : Option Moment) (m : Moment) (edits : List
   pub marks_named : (places : List ℕ) (xs ys : List Bool) → IfSome before (λ old. NameChanges 1 places old.cut m.cut) → IfSome before (λ old. xs ≡ old.cut) → ys ≡ m.cut → NameChanges 1 places xs ys
   marks_named places xs ys = changes_named 1 (λ old. 1) (λ old. old.cut) places xs ys refl
 
-  pub told : (parts : List Part) (flows potentials : List (ℕ × ℤ)) (marks : List (ℕ × Bool)) (verdict : Verdict) (old_flow flow old_potentials new_potentials : List ℤ) (old_cut cut : List Bool) → ArePartsOf edits was_moment.instance parts → IfSome before (λ old. old_flow ≡ flow_of old) → flow ≡ flow_of m → IfSome before (λ old. old_potentials ≡ old.potentials) → new_potentials ≡ m.potentials → IfSome before (λ old. old_cut ≡ old.cut) → cut ≡ m.cut → IfSome before (λ old. verdict ≡ old.verdict) → AreFound flows old_flow flow (length old_flow) → AreFound potentials old_potentials new_potentials (length old_potentials) → AreFound marks old_cut cut (length old_cut) → let r : Recorded = record { parts = parts; flows = flows; potentials = potentials; marks = marks; verdict = verdict } in RecordFits r m × (before ≡ Some (swapped r m))
+  pub told : (parts : List Part) (flows potentials : List (ℕ × ℤ)) (marks : List (ℕ × Bool)) (verdict : Verdict) (old_flow flow old_potentials new_potentials : List ℤ) (old_cut cut : List Bool) → ArePartsOf edits was_moment.instance parts → IfSome before (λ old. old_flow ≡ flow_of old) → flow ≡ flow_of m → IfSome before (λ old. old_potentials ≡ old.potentials) → new_potentials ≡ m.potentials → IfSome before (λ old. old_cut ≡ old.cut) → cut ≡ m.cut → IfSome before (λ old. verdict ≡ old.verdict) → AreFound flows old_flow flow (length old_flow) → AreFound potentials old_potentials new_potentials (length old_potentials) → AreFound marks old_cut cut (length old_cut) → let r : Recorded = record { parts = parts; flows = flows; potentials = potentials; marks = marks; verdict = verdict } in RecordFits r m × (before ≡ Some (with_record r m))
   told parts flows potentials marks verdict old_flow flow old_potentials new_potentials old_cut cut are is_old_flow is_flow is_old_potentials is_potentials is_old_cut is_cut is_verdict flows_found potentials_found marks_found =
       let old_flow_is : old_flow ≡ flow_of was_moment = from_some (λ old. old_flow ≡ flow_of old) is_old_flow in
       let old_potentials_are : old_potentials ≡ was_moment.potentials = from_some (λ old. old_potentials ≡ old.potentials) is_old_potentials in

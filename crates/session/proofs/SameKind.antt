@@ -5,7 +5,7 @@ use Rattle.history.specs.Boards.{Changes, MovesBack, MovesForward}
 use Rattle.network.specs.Instance.{Demand, Supplies, Terminals, Sides, kind_of}
 use Rattle.flow_solver.specs.Moment.{Moment}
 use Rattle.session.specs.Parts.{named, demand_swapped}
-use Rattle.session.specs.Record.{Recorded, swapped, turned}
+use Rattle.session.specs.Record.{Recorded, with_record, record_turned}
 
 -- other supplies are of the same kind
 kind_swapped : (places : List (ℕ × ℤ)) (demand : Demand) → kind_of (demand_swapped places demand) ≡ kind_of demand
@@ -14,15 +14,15 @@ kind_swapped places (Terminals source sink) = refl
 kind_swapped places (Sides marks) = refl
 
 -- a record leads to a moment of the same kind
-kind_led : (r : Recorded) (m d : Moment) → d ≡ swapped r m → kind_of d.instance.demand ≡ kind_of m.instance.demand
+kind_led : (r : Recorded) (m d : Moment) → d ≡ with_record r m → kind_of d.instance.demand ≡ kind_of m.instance.demand
 kind_led r m d is = ap (λ (n : Moment). kind_of n.instance.demand) is ∙ kind_swapped (named r.parts).supplies m.instance.demand
 
-pub kind_back : (moved : Bool) (old new : Changes Recorded) (m d : Moment) → OnTrue moved (MovesBack turned swapped old new m d) → OnFalse moved (d ≡ m)
+pub kind_back : (moved : Bool) (old new : Changes Recorded) (m d : Moment) → OnTrue moved (MovesBack record_turned with_record old new m d) → OnFalse moved (d ≡ m)
     → kind_of d.instance.demand ≡ kind_of m.instance.demand
 kind_back true old new m d (r, past, future, is_d) same = kind_led r m d is_d
 kind_back false old new m d moves same = ap (λ (n : Moment). kind_of n.instance.demand) same
 
-pub kind_forward : (moved : Bool) (old new : Changes Recorded) (m d : Moment) → OnTrue moved (MovesForward turned swapped old new m d) → OnFalse moved (d ≡ m)
+pub kind_forward : (moved : Bool) (old new : Changes Recorded) (m d : Moment) → OnTrue moved (MovesForward record_turned with_record old new m d) → OnFalse moved (d ≡ m)
     → kind_of d.instance.demand ≡ kind_of m.instance.demand
 kind_forward true old new m d (r, future, past, is_d) same = kind_led r m d is_d
 kind_forward false old new m d moves same = ap (λ (n : Moment). kind_of n.instance.demand) same

@@ -7,7 +7,7 @@ use Rattle.flow_solver.specs.declared.part.Part.{Part}
 use Rattle.session.specs.Places.{exchanged, taken, end_of}
 use Rattle.session.specs.PlacesLaws.{length-exchanged}
 use Rattle.session.specs.Parts.{Named, named, listed, flow_of, named_turned, parts_swapped, PartsFit}
-use Rattle.session.specs.Record.{Recorded, with_flow, swapped, turned, RecordFits}
+use Rattle.session.specs.Record.{Recorded, with_flow, with_record, record_turned, RecordFits}
 use Rattle.session.proofs.Endings.{ended_behind, end_of-exchanged}
 use Rattle.session.specs.ReturnLaws.{numbered_behind}
 use Rattle.session.proofs.Returns.{tells_behind}
@@ -62,16 +62,16 @@ module _ (r : Recorded) (m : Moment) (fits : RecordFits r m) where
       parts_fourth = subst (λ (n : Moment). PartsFit r.parts n.instance) (sym fourth) fits.parts
 
       -- what the moment is in the end, and what is left of the record
-      pub moment_left : (m₅ : Moment) → m₅ ≡ parts_swapped N m₄ → m₅ ≡ swapped r m
+      pub moment_left : (m₅ : Moment) → m₅ ≡ parts_swapped N m₄ → m₅ ≡ with_record r m
       moment_left m₅ is_m₅ =
           is_m₅
           ∙ ap (parts_swapped N) fourth
-          ∙ ap (λ (xs : List ℤ). record (swapped r m) { flow = xs })
+          ∙ ap (λ (xs : List ℤ). record (with_record r m) { flow = xs })
           (ended_behind (returned m.instance.demand r.verdict) N.go N.come_flows (exchanged r.flows (flow_of m)) (omega (arith, go_there r m fits, length-exchanged r.flows (flow_of m))))
 
-      pub record_left : (parts : List Part) (flows potentials : List (ℕ × ℤ)) (marks : List (ℕ × Bool)) (verdict : Verdict) → flows ≡ taken r.flows (flow_of m) → potentials ≡ taken r.potentials m₁.potentials → marks ≡ taken r.marks m₂.cut → verdict ≡ m₃.verdict → parts ≡ listed (named_turned N m₄) → record { parts = parts; flows = flows; potentials = potentials; marks = marks; verdict = verdict } ≡ turned r m
+      pub record_left : (parts : List Part) (flows potentials : List (ℕ × ℤ)) (marks : List (ℕ × Bool)) (verdict : Verdict) → flows ≡ taken r.flows (flow_of m) → potentials ≡ taken r.potentials m₁.potentials → marks ≡ taken r.marks m₂.cut → verdict ≡ m₃.verdict → parts ≡ listed (named_turned N m₄) → record { parts = parts; flows = flows; potentials = potentials; marks = marks; verdict = verdict } ≡ record_turned r m
       record_left parts flows potentials marks verdict flows_are potentials_are marks_are verdict_is parts_are =
-          record_is (turned r m) (record { parts = parts; flows = flows; potentials = potentials; marks = marks; verdict = verdict })
+          record_is (record_turned r m) (record { parts = parts; flows = flows; potentials = potentials; marks = marks; verdict = verdict })
           (parts_are ∙ ap (λ (n : Moment). listed (named_turned N n)) fourth ∙ ap listed parts_turned_after)
           flows_are
           (potentials_are ∙ ap (λ (n : Moment). taken r.potentials n.potentials) is_m₁)

@@ -38,14 +38,14 @@ and_some None ks = ks
 and_some (Some k) ks = k ∷ ks
 
 -- how many arcs they add
-abbrev pub added : List Edit → ℕ
-added [] = 0
-added (edits.Cap arc cap ∷ es) = added es
-added (edits.Low arc low ∷ es) = added es
-added (edits.Cost arc cost ∷ es) = added es
-added (edits.Supply node value ∷ es) = added es
-added (edits.Add tail head low cap cost ∷ es) = added es + 1
-added (edits.Close arc ∷ es) = added es
+abbrev pub arcs_added : List Edit → ℕ
+arcs_added [] = 0
+arcs_added (edits.Cap arc cap ∷ es) = arcs_added es
+arcs_added (edits.Low arc low ∷ es) = arcs_added es
+arcs_added (edits.Cost arc cost ∷ es) = arcs_added es
+arcs_added (edits.Supply node value ∷ es) = arcs_added es
+arcs_added (edits.Add tail head low cap cost ∷ es) = arcs_added es + 1
+arcs_added (edits.Close arc ∷ es) = arcs_added es
 
 -- the same numbers, each once and rising
 pub record AreNames (names all : List ℕ) : Type 0 where
@@ -64,7 +64,7 @@ pub record ArePartsOf (edits : List Edit) (old : Instance) (ps : List Part) : Ty
   pub arcs : List ℕ
   pub nodes_named : AreNames nodes (nodes_of edits)
   pub arcs_named : AreNames arcs (arcs_of (length old.arcs) edits)
-  pub parts : ps ≡ listed (record { supplies = valued nodes (supplies_in old.demand) (pos 0); rows = valued arcs old.arcs no_row; come_rows = []; come_flows = []; go = added edits })
+  pub parts : ps ≡ listed (record { supplies = valued nodes (supplies_in old.demand) (pos 0); rows = valued arcs old.arcs no_row; come_rows = []; come_flows = []; go = arcs_added edits })
 
 -- the numbers are places of a list of n values
 abbrev pub ArePlaces : ℕ → List ℕ → Type 0

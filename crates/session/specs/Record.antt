@@ -33,8 +33,8 @@ abbrev pub marks_swapped : List (ℕ × Bool) → Moment → Moment
 marks_swapped places m = record m { cut = exchanged places m.cut }
 
 -- the moment with the record's values; the return arc's flow is what the verdict tells
-abbrev pub swapped : Recorded → Moment → Moment
-swapped r m = record {
+abbrev pub with_record : Recorded → Moment → Moment
+with_record r m = record {
   instance = instance_swapped (named r.parts) m.instance;
   flow = returned m.instance.demand r.verdict ++ changed r.flows (named r.parts).go (named r.parts).come_flows (flow_of m);
   potentials = exchanged r.potentials m.potentials;
@@ -43,8 +43,8 @@ swapped r m = record {
 }
 
 -- the record with the moment's values
-abbrev pub turned : Recorded → Moment → Recorded
-turned r m = record {
+abbrev pub record_turned : Recorded → Moment → Recorded
+record_turned r m = record {
   parts = listed (named_turned (named r.parts) m);
   flows = taken r.flows (flow_of m);
   potentials = taken r.potentials m.potentials;
@@ -60,7 +60,7 @@ abbrev pub HasOneFlowAnArc : Moment → Type 0
 HasOneFlowAnArc m = length (flow_of m) ≡ length m.instance.arcs
 
 -- the tables hold such a moment, be it answered or not; the verdict tells the return arc's flow
-pub record IsInRange (m : Moment) : Type 0 where
+pub record IsMomentInRange (m : Moment) : Type 0 where
   pub lawful : IsLawful m.instance
   pub verdict : VerdictFits m.instance.demand m.verdict
   pub told : m.flow ≡ returned m.instance.demand m.verdict ++ flow_of m
@@ -72,7 +72,7 @@ pub record IsInRange (m : Moment) : Type 0 where
 
 -- the record can be exchanged with the moment
 pub record RecordFits (r : Recorded) (m : Moment) : Type 0 where
-  pub in_range : IsInRange m
+  pub in_range : IsMomentInRange m
   pub parts : PartsFit r.parts m.instance
   pub verdict : VerdictFits m.instance.demand r.verdict
   pub flows : PlacesFit IsFlowValue (length (flow_of m) - (named r.parts).go) r.flows

@@ -11,7 +11,7 @@ use Rattle.session.specs.PlacesLaws.{length-exchanged, exchanged_again, taken_ag
 use Rattle.session.specs.EndingLaws.{changed_again, taken_changed, end_of-changed, length-changed, All-changed}
 use Rattle.session.specs.Parts.{Named, named, listed, flow_of, instance_swapped, named_turned, NamedFit}
 use Rattle.session.specs.PartsLaws.{named-listed, instance_again, length-arcs, lawful_again, go_flow, turned_flows, named_again, fit_again as named_fit_again}
-use Rattle.session.specs.Record.{Recorded, swapped, turned, IsMark, IsInRange, RecordFits}
+use Rattle.session.specs.Record.{Recorded, with_record, record_turned, IsMark, IsMomentInRange, RecordFits}
 use Rattle.session.specs.ReturnLaws.{numbered_behind, returned-swapped, numbered-swapped, verdict_fits-swapped}
 
 pub moment_is : (m n : Moment) → n.instance ≡ m.instance → n.flow ≡ m.flow → n.potentials ≡ m.potentials → n.verdict ≡ m.verdict → n.cut ≡ m.cut → n ≡ m
@@ -31,7 +31,7 @@ record_is r q same_parts same_flows same_potentials same_marks same_verdict =
     ∙ ap (λ (v : Verdict). record r { verdict = v }) same_verdict
 
 -- the flows of the numbered arcs after the swap
-pub flow_of-swapped : (r : Recorded) (m : Moment) → VerdictFits m.instance.demand r.verdict → flow_of (swapped r m) ≡ changed r.flows (named r.parts).go (named r.parts).come_flows (flow_of m)
+pub flow_of-swapped : (r : Recorded) (m : Moment) → VerdictFits m.instance.demand r.verdict → flow_of (with_record r m) ≡ changed r.flows (named r.parts).go (named r.parts).come_flows (flow_of m)
 flow_of-swapped r m fits =
     numbered-swapped (named r.parts).supplies m.instance.demand _
     ∙ numbered_behind m.instance.demand r.verdict (changed r.flows (named r.parts).go (named r.parts).come_flows (flow_of m)) fits
@@ -53,36 +53,36 @@ module _ (r : Recorded) (m : Moment) (fits : RecordFits r m) where
   go_there = go_flow N m fit one
 
   -- what the turned parts name
-  named_turned_is : named (turned r m).parts ≡ named_turned N m
+  named_turned_is : named (record_turned r m).parts ≡ named_turned N m
   named_turned_is = named-listed (named_turned N m) (turned_flows N m fit one)
 
-  flow_again : (swapped (turned r m) (swapped r m)).flow ≡ m.flow
+  flow_again : (with_record (record_turned r m) (with_record r m)).flow ≡ m.flow
   flow_again =
       let rest : List ℤ → List ℤ = λ zs. returned m.instance.demand m.verdict ++ zs in
-      ap (λ (M : Named). returned (swapped r m).instance.demand m.verdict ++ changed (taken r.flows xs) M.go M.come_flows (flow_of (swapped r m))) named_turned_is
-      ∙ ap (λ zs. zs ++ changed (taken r.flows xs) (length N.come_rows) (end_of N.go xs) (flow_of (swapped r m))) (returned-swapped N.supplies m.instance.demand m.verdict)
+      ap (λ (M : Named). returned (with_record r m).instance.demand m.verdict ++ changed (taken r.flows xs) M.go M.come_flows (flow_of (with_record r m))) named_turned_is
+      ∙ ap (λ zs. zs ++ changed (taken r.flows xs) (length N.come_rows) (end_of N.go xs) (flow_of (with_record r m))) (returned-swapped N.supplies m.instance.demand m.verdict)
       ∙ ap (λ zs. rest (changed (taken r.flows xs) (length N.come_rows) (end_of N.go xs) zs)) (flow_of-swapped r m fits.verdict)
       ∙ ap (λ n. rest (changed (taken r.flows xs) n (end_of N.go xs) (changed r.flows N.go N.come_flows xs))) (sym fit.one_flow)
       ∙ ap rest (changed_again r.flows N.go N.come_flows xs go_there fits.flows.within fits.flows.rising)
       ∙ sym fits.in_range.told
 
-  pub board_again : swapped (turned r m) (swapped r m) ≡ m
+  pub board_again : with_record (record_turned r m) (with_record r m) ≡ m
   board_again =
-      moment_is m (swapped (turned r m) (swapped r m))
-      (ap (λ (M : Named). instance_swapped M (swapped r m).instance) named_turned_is ∙ instance_again N m fit)
+      moment_is m (with_record (record_turned r m) (with_record r m))
+      (ap (λ (M : Named). instance_swapped M (with_record r m).instance) named_turned_is ∙ instance_again N m fit)
       flow_again
       (exchanged_again r.potentials m.potentials (length m.potentials) fits.potentials.rising fits.potentials.within)
       refl
       (exchanged_again r.marks m.cut (length m.cut) fits.marks.rising fits.marks.within)
 
   -- the flows that came are the last
-  pub flows_came : end_of (length N.come_flows) (flow_of (swapped r m)) ≡ N.come_flows
+  pub flows_came : end_of (length N.come_flows) (flow_of (with_record r m)) ≡ N.come_flows
   flows_came = ap (end_of (length N.come_flows)) (flow_of-swapped r m fits.verdict) ∙ end_of-changed r.flows N.go N.come_flows xs go_there fits.flows.within
 
-  pub change_again : turned (turned r m) (swapped r m) ≡ r
+  pub change_again : record_turned (record_turned r m) (with_record r m) ≡ r
   change_again =
-      record_is r (turned (turned r m) (swapped r m))
-      (ap (λ (M : Named). listed (named_turned M (swapped r m))) named_turned_is ∙ ap listed (named_again N m fit one (swapped r m) refl flows_came) ∙ sym fits.parts.normal)
+      record_is r (record_turned (record_turned r m) (with_record r m))
+      (ap (λ (M : Named). listed (named_turned M (with_record r m))) named_turned_is ∙ ap listed (named_again N m fit one (with_record r m) refl flows_came) ∙ sym fits.parts.normal)
       (ap (taken (taken r.flows xs)) (flow_of-swapped r m fits.verdict) ∙ taken_changed r.flows N.go N.come_flows xs go_there fits.flows.within fits.flows.rising)
       (taken_again r.potentials m.potentials fits.potentials.rising fits.potentials.within)
       (taken_again r.marks m.cut fits.marks.rising fits.marks.within)
@@ -90,10 +90,10 @@ module _ (r : Recorded) (m : Moment) (fits : RecordFits r m) where
 
   -- ---- what is left fits
 
-  length-flow : length (flow_of (swapped r m)) ≡ length xs - N.go + length N.come_flows
+  length-flow : length (flow_of (with_record r m)) ≡ length xs - N.go + length N.come_flows
   length-flow = ap length (flow_of-swapped r m fits.verdict) ∙ length-changed r.flows N.go N.come_flows xs go_there fits.flows.within
 
-  in_range_again : IsInRange (swapped r m)
+  in_range_again : IsMomentInRange (with_record r m)
   in_range_again =
       let kept = fits.in_range in
       let flow_is = flow_of-swapped r m fits.verdict in
@@ -108,15 +108,15 @@ module _ (r : Recorded) (m : Moment) (fits : RecordFits r m) where
         marks = length-exchanged r.marks m.cut ∙ kept.marks;
       }
 
-  pub fits_again : RecordFits (turned r m) (swapped r m)
+  pub fits_again : RecordFits (record_turned r m) (with_record r m)
   fits_again =
       let kept = fits.in_range in
-      let flows_left : length (flow_of (swapped r m)) - (named (turned r m).parts).go ≡ length xs - N.go = omega (arith, length-flow, fit.one_flow, ap (λ (M : Named). M.go) named_turned_is) in
+      let flows_left : length (flow_of (with_record r m)) - (named (record_turned r m).parts).go ≡ length xs - N.go = omega (arith, length-flow, fit.one_flow, ap (λ (M : Named). M.go) named_turned_is) in
       record {
         in_range = in_range_again;
         parts = record {
           normal = ap listed (sym named_turned_is);
-          fit = subst (λ (M : Named). NamedFit M (swapped r m).instance) (sym named_turned_is) (named_fit_again N m fit one kept.lawful kept.flow);
+          fit = subst (λ (M : Named). NamedFit M (with_record r m).instance) (sym named_turned_is) (named_fit_again N m fit one kept.lawful kept.flow);
         };
         verdict = rw (verdict_fits-swapped N.supplies m.instance.demand m.verdict) kept.verdict;
         flows = rw flows_left (fit_taken IsFlowValue (length xs - N.go) r.flows xs (omega arith) kept.flow fits.flows);

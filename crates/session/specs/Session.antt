@@ -19,7 +19,7 @@ use Rattle.session.specs.Group.{ArePartsOf, valued}
 use Rattle.session.specs.Marks.{AreMarks, AreOn, IsMovedTo, marked, with_mark}
 use Rattle.session.specs.Places.{IsRising, AreWithin, IsDifference, end_of}
 use Rattle.session.specs.Parts.{named, listed, flow_of, instance_swapped, no_row, supply_parts, arc_parts, IsOneEnd}
-use Rattle.session.specs.Record.{Recorded, RecordFits, Differs, swapped}
+use Rattle.session.specs.Record.{Recorded, RecordFits, Differs, with_record}
 
 -- the moments in the order of time, the record between each moment and the next, and the marks of moments
 pub record Stack : Type 0 where
@@ -40,8 +40,8 @@ abbrev pub moment_at : Stack → ℕ → Moment
 moment_at s i = slice_index_or (all_boards s.moments) i s.moments.present
 
 -- the kind of problem that the present moment is one of
-abbrev pub kind_in : Timeline Moment → Kind
-kind_in moments = kind_of moments.present.instance.demand
+abbrev pub present_kind : Timeline Moment → Kind
+present_kind moments = kind_of moments.present.instance.demand
 
 -- an edit was applied: the instance is the edited one, the moment answers it, and so many pushes led there
 pub record IsEdited (edit : Edit) (old new : Moment) : Type 0 where
@@ -105,45 +105,45 @@ pub record IsRecord (r : Recorded) (present other : Moment) : Type 0 where
   pub verdict : r.verdict ≡ other.verdict
 
 -- the record leads from moment i + 1 back to moment i, or from moment i on to moment i + 1
-abbrev pub LeadsBack : Stack → ℕ → Recorded → Type 0
-LeadsBack s i r = IsRecord r (moment_at s (i + 1)) (moment_at s i)
+abbrev pub LeadsToEarlier : Stack → ℕ → Recorded → Type 0
+LeadsToEarlier s i r = IsRecord r (moment_at s (i + 1)) (moment_at s i)
 
-abbrev pub LeadsOn : Stack → ℕ → Recorded → Type 0
-LeadsOn s i r = IsRecord r (moment_at s i) (moment_at s (i + 1))
+abbrev pub LeadsToLater : Stack → ℕ → Recorded → Type 0
+LeadsToLater s i r = IsRecord r (moment_at s i) (moment_at s (i + 1))
 
 -- what a session keeps of its changes and its tables
-pub record IsKept (h : Changes Recorded) (m : Moment) : Type 0 where
-  pub stands : StandsFor RecordFits swapped h m
-  pub exact : StandsFor Differs swapped h m
-  pub answered : All IsAnswered (all_boards (boards swapped h m))
+pub record IsHistoryAt (h : Changes Recorded) (m : Moment) : Type 0 where
+  pub stands : StandsFor RecordFits with_record h m
+  pub exact : StandsFor Differs with_record h m
+  pub answered : All IsAnswered (all_boards (boards with_record h m))
 
 -- what it keeps of them and of its marks
-pub record IsHeld (h : Changes Recorded) (m : Moment) (marks : List Mark) : Type 0 where
-  pub kept : IsKept h m
-  pub marked : AreOn (boards swapped h m) marks
+pub record IsSessionAt (h : Changes Recorded) (m : Moment) (marks : List Mark) : Type 0 where
+  pub kept : IsHistoryAt h m
+  pub marked : AreOn (boards with_record h m) marks
   pub few : AreMarks marks
 
 -- the moments and the records of such changes at a moment, with the marks
 abbrev pub stack_of : Changes Recorded → Moment → List Mark → Stack
-stack_of h m marks = record { moments = boards swapped h m; records = all_changes h; marks = marks }
+stack_of h m marks = record { moments = boards with_record h m; records = all_changes h; marks = marks }
 
 -- a place of an instance that a step changes
-pub data Place : Type 0 where
-  OfArc : ℕ → Place
-  OfNode : ℕ → Place
-  OfNewArc : Place
+pub data InstancePlace : Type 0 where
+  OfArc : ℕ → InstancePlace
+  OfNode : ℕ → InstancePlace
+  OfNewArc : InstancePlace
 
-abbrev pub place_of_part : Part → Place
+abbrev pub place_of_part : Part → InstancePlace
 place_of_part (Arc k row) = OfArc k
 place_of_part (Supply id value) = OfNode id
 place_of_part Last = OfNewArc
 place_of_part (Gone row flow) = OfNewArc
 
 -- the places of a record's parts
-abbrev pub places_of : Recorded → List Place
+abbrev pub places_of : Recorded → List InstancePlace
 places_of r = map place_of_part r.parts
 
-abbrev pub place_of_edit : Edit → Place
+abbrev pub place_of_edit : Edit → InstancePlace
 place_of_edit (edits.Cap arc cap) = OfArc arc
 place_of_edit (edits.Low arc low) = OfArc arc
 place_of_edit (edits.Cost arc cost) = OfArc arc

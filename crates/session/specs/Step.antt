@@ -16,7 +16,7 @@ use Rattle.session.specs.declared.marks.Mark.{Mark}
 use Rattle.session.specs.declared.refusal.StepRefusal.TheVariants as refusal
 use Rattle.session.specs.Marks.{marked, has_place, with_mark, up_to, IsMovedTo}
 use Rattle.session.specs.Refusal.{number_of}
-use Rattle.session.specs.Session.{Stack, IsEdited, AreEdited, kind_in}
+use Rattle.session.specs.Session.{Stack, IsEdited, AreEdited, present_kind}
 
 -- what a session has come to: its moments in the order of time, and the marks of moments
 pub record SessionState : Type 0 where
@@ -110,7 +110,7 @@ StepBy (commands.Back name) old reply new = StepOfBack (marked old.marks name) o
 -- a step by a line: that of its command, or its refusal by the number of its first check that fails
 abbrev pub Step : SessionState → Line → Reply → SessionState → Type 0
 Step old line reply new =
-    MatchResult (command (kind_in old.moments) line) (λ c. StepBy c old reply new) (λ number. IsRefused number old reply new)
+    MatchResult (command (present_kind old.moments) line) (λ c. StepBy c old reply new) (λ number. IsRefused number old reply new)
 
 -- a group whose edits the instance allows is refused by its first line that is refused by itself; where there is none it is applied, or refused for want of memory
 abbrev pub StepOfEdits : Option CommandFault → List Edit → SessionState → Reply → SessionState → Type 0
@@ -125,4 +125,4 @@ StepOfGroup group old reply new =
 -- a step by a turn: by its line, or by all lines of its group
 abbrev pub TurnStep : SessionState → Turn → Reply → SessionState → Type 0
 TurnStep old (OfLine line) reply new = Step old line reply new
-TurnStep old (OfGroup lines) reply new = StepOfGroup (gathered (kind_in old.moments) 0 lines) old reply new
+TurnStep old (OfGroup lines) reply new = StepOfGroup (gathered (present_kind old.moments) 0 lines) old reply new

@@ -10,7 +10,7 @@ use Rattle.dimacs_text.specs.Turns.{Turn, Turns, and_turn_by}
 use Rattle.session.specs.declared.reply.Reply.{Reply as Given}
 use Rattle.session.specs.declared.refusal.StepRefusal.{StepRefusal}
 use Rattle.session.specs.Reply.{reply_of}
-use Rattle.session.specs.Session.{Stack, kind_in}
+use Rattle.session.specs.Session.{Stack, present_kind}
 use Rattle.session.specs.Step.{Reply, SessionState, TurnStep, state_of}
 
 -- a line as it is passed: nothing where it is too long
@@ -27,7 +27,7 @@ turns_by opened line = if asks line then and_turn_by opened [] line else record 
 
 -- what the lines of the group that stands open have given, if one does
 abbrev pub gathered_in : SessionState → Option (List Line) → Option Gathered
-gathered_in s opened = option_map (gathered (kind_in s.moments) 0) opened
+gathered_in s opened = option_map (gathered (present_kind s.moments) 0) opened
 
 -- a turn that is whole is one step, with its reply; where none is, nothing changes and nothing is replied
 abbrev pub TakesTurns : List Turn → SessionState → Option Reply → SessionState → Type 0

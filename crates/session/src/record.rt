@@ -3,7 +3,7 @@
 ghost use Rattle.std.specs.Prelude.{◌≡◌, IsSome, IfOk, Some};
 ghost use Rattle.flow_solver.specs.Part.{return_count};
 ghost use Rattle.session.specs.Group.{ArePartsOf};
-ghost use Rattle.session.specs.Record.{RecordFits, Differs, swapped};
+ghost use Rattle.session.specs.Record.{RecordFits, Differs, with_record};
 ghost use Rattle.session.specs.Session.{AreAcceptedEdits, old_instance, old_moment};
 
 mod building;
@@ -56,7 +56,7 @@ impl<A: Allocator + Copy> Record<A> {
         requires change { AreAcceptedEdits edits.now (old_moment tables.now) tables.now.moment }
         ensures parts { IfOk result (λ r. ArePartsOf edits.now (old_instance tables.now) r.parts) }
         ensures fits { IfOk result (λ r. RecordFits r tables.now.moment) }
-        ensures leads { IfOk result (λ r. tables.now.before ≡ Some (swapped r tables.now.moment)) }
+        ensures leads { IfOk result (λ r. tables.now.before ≡ Some (with_record r tables.now.moment)) }
         ensures exact { IfOk result (λ r. Differs r tables.now.moment) }
     {
         edits_keep_lawful();
@@ -104,7 +104,7 @@ fn index_of_first_arc(tables: &Tables) -> usize
 
 impl<A: Allocator> Change for Record<A> {
     ghost use Rattle.flow_solver.specs.Moment.{Moment};
-    ghost use Rattle.session.specs.Record.{RecordFits, swapped, turned};
+    ghost use Rattle.session.specs.Record.{RecordFits, with_record, record_turned};
     ghost use Rattle.session.specs.RecordLaws.{fits_again, change_again, board_again};
 
     type Board = Tables;
@@ -115,9 +115,9 @@ impl<A: Allocator> Change for Record<A> {
 
     ghost Fits = { RecordFits };
 
-    ghost turned = { turned };
+    ghost turned = { record_turned };
 
-    ghost swapped = { swapped };
+    ghost swapped = { with_record };
 
     ghost fits_again = { fits_again };
 

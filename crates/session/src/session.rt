@@ -12,7 +12,7 @@ ghost use Rattle.session.specs.declared.refusal.StepRefusal.TheVariants as refus
 ghost use Rattle.session.specs.Marks.{has_mark, has_place, up_to, AreMarks, IsMovedTo};
 ghost use Rattle.session.specs.Parts.{flow_of};
 ghost use Rattle.session.specs.Refusal.{ok_or, RefusesAs};
-ghost use Rattle.session.specs.Session.{kind_in, past_count, places_of, present, present_marked, AreEdited, EditLeads, EditsLead, IsEdited, LeadsBack, LeadsOn, MovesToMark, RecordsEdit, RecordsEdits};
+ghost use Rattle.session.specs.Session.{past_count, places_of, present, present_kind, present_marked, AreEdited, EditLeads, EditsLead, IsEdited, LeadsToEarlier, LeadsToLater, MovesToMark, RecordsEdit, RecordsEdits};
 
 use crate::marks::Marks;
 use crate::record::Record;
@@ -37,13 +37,13 @@ pub struct Session<A: Allocator + Copy = Global> {
 }
 
 impl<A: Allocator + Copy> Model for Session<A> {
-    ghost use Rattle.session.specs.Session.{Stack, stack_of, IsHeld};
+    ghost use Rattle.session.specs.Session.{Stack, stack_of, IsSessionAt};
 
     ghost Value = { Stack };
 
     ghost view = { λ s. stack_of s.history s.tables.moment s.marks };
 
-    ghost invariant = { λ s. IsHeld s.history s.tables.moment s.marks };
+    ghost invariant = { λ s. IsSessionAt s.history s.tables.moment s.marks };
 }
 
 impl Session {
@@ -108,7 +108,7 @@ impl<A: Allocator + Copy> Session<A> {
         ensures advances { OnOk result (Advances self.old.moments self.new.moments) }
         ensures records { OnOk result (RecordsEdit edit.now self.old self.new) }
         ensures marks { OnOk result (self.new.marks ≡ up_to (past_count self.old) self.old.marks) }
-        ensures kind { kind_in self.new.moments ≡ kind_in self.old.moments }
+        ensures kind { present_kind self.new.moments ≡ present_kind self.old.moments }
         ensures cause { RefusesAs (edited (present self.old).instance edit.now) result }
         ensures pushes { IfOk result (EditLeads edit.now self.old self.new) }
         ensures refused { OnErr result (self.new ≡ self.old) }
@@ -127,7 +127,7 @@ impl<A: Allocator + Copy> Session<A> {
         ensures advances { OnOk result (Advances self.old.moments self.new.moments) }
         ensures records { OnOk result (RecordsEdits edits.now self.old self.new) }
         ensures marks { OnOk result (self.new.marks ≡ up_to (past_count self.old) self.old.marks) }
-        ensures kind { kind_in self.new.moments ≡ kind_in self.old.moments }
+        ensures kind { present_kind self.new.moments ≡ present_kind self.old.moments }
         ensures cause { RefusesAs (edited_all (present self.old).instance edits.now) result }
         ensures pushes { IfOk result (EditsLead edits.now self.old self.new) }
         ensures refused { OnErr result (self.new ≡ self.old) }
@@ -156,7 +156,7 @@ impl<A: Allocator + Copy> Session<A> {
         ensures undone { OnTrue result (StepsBack self.old.moments self.new.moments) }
         ensures places { map places_of self.new.records ≡ map places_of self.old.records }
         ensures marks { self.new.marks ≡ self.old.marks }
-        ensures kind { kind_in self.new.moments ≡ kind_in self.old.moments }
+        ensures kind { present_kind self.new.moments ≡ present_kind self.old.moments }
         ensures unchanged { OnFalse result (self.new ≡ self.old) }
     {
         self.history.undo(&mut self.tables)
@@ -168,7 +168,7 @@ impl<A: Allocator + Copy> Session<A> {
         ensures redone { OnTrue result (StepsForward self.old.moments self.new.moments) }
         ensures places { map places_of self.new.records ≡ map places_of self.old.records }
         ensures marks { self.new.marks ≡ self.old.marks }
-        ensures kind { kind_in self.new.moments ≡ kind_in self.old.moments }
+        ensures kind { present_kind self.new.moments ≡ present_kind self.old.moments }
         ensures unchanged { OnFalse result (self.new ≡ self.old) }
     {
         self.history.redo(&mut self.tables)
@@ -183,7 +183,7 @@ impl<A: Allocator + Copy> Session<A> {
         ensures answer { result ≡ ok_or refusal.TooManyMarks (has_place self.old.marks name.now) }
         ensures marked { OnOk result (self.new ≡ present_marked self.old name.now) }
         ensures few { AreMarks self.new.marks }
-        ensures kind { kind_in self.new.moments ≡ kind_in self.old.moments }
+        ensures kind { present_kind self.new.moments ≡ present_kind self.old.moments }
         ensures refused { OnErr result (self.new ≡ self.old) }
     {
         let (past, _) = self.steps();
@@ -203,7 +203,7 @@ impl<A: Allocator + Copy> Session<A> {
         ensures moved { MovesToMark name.now self.old self.new }
         ensures places { map places_of self.new.records ≡ map places_of self.old.records }
         ensures marks { self.new.marks ≡ self.old.marks }
-        ensures kind { kind_in self.new.moments ≡ kind_in self.old.moments }
+        ensures kind { present_kind self.new.moments ≡ present_kind self.old.moments }
         ensures refused { OnErr result (self.new ≡ self.old) }
     {
         let Some(moment) = self.marks.moment_of(name) else {
@@ -224,7 +224,7 @@ impl<A: Allocator + Copy> Session<A> {
         ensures moved { IsMovedTo (past_count self.old - count) self.old.moments self.new.moments }
         ensures places { map places_of self.new.records ≡ map places_of self.old.records }
         ensures marks { self.new.marks ≡ self.old.marks }
-        ensures kind { kind_in self.new.moments ≡ kind_in self.old.moments }
+        ensures kind { present_kind self.new.moments ≡ present_kind self.old.moments }
     {
         for _ in 0..count {
             let _ = self.undo();
@@ -237,7 +237,7 @@ impl<A: Allocator + Copy> Session<A> {
         ensures moved { IsMovedTo (past_count self.old + count) self.old.moments self.new.moments }
         ensures places { map places_of self.new.records ≡ map places_of self.old.records }
         ensures marks { self.new.marks ≡ self.old.marks }
-        ensures kind { kind_in self.new.moments ≡ kind_in self.old.moments }
+        ensures kind { present_kind self.new.moments ≡ present_kind self.old.moments }
     {
         for _ in 0..count {
             let _ = self.redo();
@@ -299,8 +299,8 @@ impl<A: Allocator + Copy> Session<A> {
     pub fn moved(&self, i: usize) -> Option<&Record<A>>
         ensures there { IsNone result ↔ (past_count self.now + length self.now.moments.future ≤ i) }
         ensures record { option_copied result ≡ slice_get self.now.records i }
-        ensures past { i < past_count self.now → IfSome result (λ r. LeadsBack self.now i r.now) }
-        ensures future { past_count self.now ≤ i → IfSome result (λ r. LeadsOn self.now i r.now) }
+        ensures past { i < past_count self.now → IfSome result (λ r. LeadsToEarlier self.now i r.now) }
+        ensures future { past_count self.now ≤ i → IfSome result (λ r. LeadsToLater self.now i r.now) }
     {
         self.history.change(i)
     }

@@ -4,7 +4,7 @@ ghost use Rattle.std.specs.Prelude.{◌≡◌, IfErr, OnOk};
 ghost use Rattle.dimacs_text.specs.declared.command.Command.TheVariants as commands;
 ghost use Rattle.network.specs.Edited.{edited_all};
 ghost use Rattle.session.specs.Reply.{IsStep};
-ghost use Rattle.session.specs.Session.{kind_in};
+ghost use Rattle.session.specs.Session.{present_kind};
 ghost use Rattle.session.specs.Step.{StepBy, StepOfEdit, StepOfGroup};
 
 use crate::refusal::StepRefusal;
@@ -21,7 +21,7 @@ impl<A: Allocator + Copy> Session<A> {
     /// Why the step was refused; `Group` and `End` are no steps by themselves.
     pub fn step(&mut self, command: &Command) -> Result<Reply, StepRefusal>
         ensures step { IsStep (StepBy command.now) self.old result self.new }
-        ensures kind { kind_in self.new.moments ≡ kind_in self.old.moments }
+        ensures kind { present_kind self.new.moments ≡ present_kind self.old.moments }
     {
         match command {
             Command::Edit(edit) => self.step_by_edit(edit),
@@ -43,7 +43,7 @@ impl<A: Allocator + Copy> Session<A> {
     /// Why the step was refused: by the first of the group's lines that is refused, by itself or by the network.
     pub fn step_group(&mut self, group: &Group) -> Result<Reply, StepRefusal>
         ensures step { IsStep (StepOfGroup group.now) self.old result self.new }
-        ensures kind { kind_in self.new.moments ≡ kind_in self.old.moments }
+        ensures kind { present_kind self.new.moments ≡ present_kind self.old.moments }
     {
         if let Some(number) = group.fault() {
             let first = first_refusal(self.network(), group.edits(), number);
@@ -58,7 +58,7 @@ impl<A: Allocator + Copy> Session<A> {
     /// Applies an edit.
     fn step_by_edit(&mut self, edit: &Edit) -> Result<Reply, StepRefusal>
         ensures step { IsStep (StepOfEdit edit.now) self.old result self.new }
-        ensures kind { kind_in self.new.moments ≡ kind_in self.old.moments }
+        ensures kind { present_kind self.new.moments ≡ present_kind self.old.moments }
     {
         match self.apply(edit) {
             Ok(_) => Ok(Reply::Verdict),
@@ -69,7 +69,7 @@ impl<A: Allocator + Copy> Session<A> {
     /// Goes back one moment.
     fn step_back(&mut self) -> Result<Reply, StepRefusal>
         ensures step { IsStep (StepBy commands.Undo) self.old result self.new }
-        ensures kind { kind_in self.new.moments ≡ kind_in self.old.moments }
+        ensures kind { present_kind self.new.moments ≡ present_kind self.old.moments }
     {
         if self.undo() {
             Ok(Reply::Verdict)
@@ -81,7 +81,7 @@ impl<A: Allocator + Copy> Session<A> {
     /// Goes on one moment.
     fn step_on(&mut self) -> Result<Reply, StepRefusal>
         ensures step { IsStep (StepBy commands.Redo) self.old result self.new }
-        ensures kind { kind_in self.new.moments ≡ kind_in self.old.moments }
+        ensures kind { present_kind self.new.moments ≡ present_kind self.old.moments }
     {
         if self.redo() {
             Ok(Reply::Verdict)
@@ -93,7 +93,7 @@ impl<A: Allocator + Copy> Session<A> {
     /// Puts the name's mark on the present moment.
     fn step_by_mark(&mut self, name: &Name) -> Result<Reply, StepRefusal>
         ensures step { IsStep (StepBy (commands.Mark name.now)) self.old result self.new }
-        ensures kind { kind_in self.new.moments ≡ kind_in self.old.moments }
+        ensures kind { present_kind self.new.moments ≡ present_kind self.old.moments }
     {
         match self.mark(name) {
             Ok(()) => Ok(Reply::Verdict),
@@ -104,7 +104,7 @@ impl<A: Allocator + Copy> Session<A> {
     /// Moves to the moment that bears the name.
     fn step_to_mark(&mut self, name: &Name) -> Result<Reply, StepRefusal>
         ensures step { IsStep (StepBy (commands.Back name.now)) self.old result self.new }
-        ensures kind { kind_in self.new.moments ≡ kind_in self.old.moments }
+        ensures kind { present_kind self.new.moments ≡ present_kind self.old.moments }
     {
         match self.back(name) {
             Ok(()) => Ok(Reply::Verdict),

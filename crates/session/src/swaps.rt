@@ -7,14 +7,14 @@ ghost use Rattle.network.specs.Instance.{IsLawful};
 ghost use Rattle.flow_solver.specs.TablesView.{IsFlowValue};
 ghost use Rattle.session.specs.Places.{taken, PlacesFit};
 ghost use Rattle.session.specs.Parts.{named, listed, flow_of, named_turned, parts_swapped, PartsFit, put_in, left_by, next_after, PartFits, cut_off};
-ghost use Rattle.session.specs.Record.{flows_swapped, marks_swapped, potentials_swapped, HasOneFlowAnArc, IsInRange, IsMark};
+ghost use Rattle.session.specs.Record.{flows_swapped, marks_swapped, potentials_swapped, HasOneFlowAnArc, IsMomentInRange, IsMark};
 
 use flow_solver::{Part, Tables};
 
 /// Exchanges the flows of these arcs.
 pub(crate) fn swap_flows(places: &mut [(u32, i64)], tables: &mut Tables)
     requires fit { PlacesFit IsFlowValue (length (flow_of tables.old.moment)) places.old }
-    requires in_range { IsInRange tables.old.moment }
+    requires in_range { IsMomentInRange tables.old.moment }
     ensures places { places.new ≡ taken places.old (flow_of tables.old.moment) }
     ensures moment { tables.new.moment ≡ flows_swapped places.old tables.old.moment }
 {

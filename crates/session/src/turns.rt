@@ -6,7 +6,7 @@ ghost use Rattle.dimacs_lines.specs.Fields.{words_of};
 ghost use Rattle.dimacs_lines.specs.Lines.{Line};
 ghost use Rattle.dimacs_text.specs.Group.{gathered};
 ghost use Rattle.dimacs_text.specs.declared.problem.Kind.{Kind};
-ghost use Rattle.session.specs.Session.{kind_in};
+ghost use Rattle.session.specs.Session.{present_kind};
 ghost use Rattle.session.specs.Step.{state_of};
 ghost use Rattle.session.specs.Turns.{asks, gathered_in, IsPassedAs, LineTaken};
 
@@ -28,7 +28,7 @@ impl<A: Allocator + Copy> Session<A> {
         ensures taken { (whole : Line) → IsPassedAs line.entry whole
             → (opened : Option (List Line)) → group.old ≡ gathered_in (state_of self.old) opened
             → LineTaken self.old opened whole result self.new group.new }
-        ensures kind { kind_in self.new.moments ≡ kind_in self.old.moments }
+        ensures kind { present_kind self.new.moments ≡ present_kind self.old.moments }
     {
         if !asks(line) {
             return None;
@@ -56,7 +56,7 @@ impl<A: Allocator + Copy> Session<A> {
         requires alone { group.old ≡ None }
         ensures taken { (whole : Line) → IsPassedAs line.entry whole
             → LineTaken self.old None whole result self.new group.new }
-        ensures kind { kind_in self.new.moments ≡ kind_in self.old.moments }
+        ensures kind { present_kind self.new.moments ≡ present_kind self.old.moments }
     {
         groups_are_bracketed();
         let Some(line) = line else {

@@ -2,7 +2,7 @@ use Rattle.std.proofs.Common.{length, sym, ap, subst, ◌∙◌}
 use Rattle.std.proofs.lemmas.List.{with_items_is}
 use Rattle.flow_solver.specs.Moment.{Moment}
 use Rattle.session.specs.PlacesLaws.{length-taken}
-use Rattle.session.specs.Record.{Recorded, RecordFits, swapped, turned}
+use Rattle.session.specs.Record.{Recorded, RecordFits, with_record, record_turned}
 use Rattle.session.proofs.Running.{length-turned}
 use Rattle.session.proofs.Swapping.{tells_third, fits_third, lawful_fourth, one_an_arc_fourth, parts_fourth, moment_left, record_left}
 use Rattle.session.proofs.record.RecordChange.swap.Goals as goal
@@ -81,7 +81,7 @@ returns-clause-change g c =
     (with_items_is c.self.inside.marks c.swap_marks.new.places (ap length marks_are ∙ length-taken r.marks _ ∙ sym c.self.inside.marks.ok.0) ∙ marks_are)
     c.swap_verdict.ensures.value
     (with_items_is c.self.inside.parts c.swap_parts.new.parts (ap length parts_are ∙ length-turned r.parts m₄ parts_fit lawful one ∙ sym c.self.inside.parts.ok.0) ∙ parts_are)
-    ∙ ap (λ (q : Recorded). turned q m) c.self.view_is
+    ∙ ap (λ (q : Recorded). record_turned q m) c.self.view_is
 
 pub returns-clause-board : goal.returns-clause-board
 returns-clause-board g c =
@@ -93,4 +93,4 @@ returns-clause-board g c =
     let marks = rw c.deref_mut-3.ensures.value at c.swap_marks.ensures.moment in
     moment_left r m fits c.swap_flows.new.tables.moment c.swap_potentials.new.tables.moment c.swap_marks.new.tables.moment flows potentials marks c.swap_verdict.new.self.moment c.swap_verdict.ensures.moment
     c.swap_parts.new.tables.moment (rw c.deref_mut-4.ensures.value at c.swap_parts.ensures.moment)
-    ∙ ap (λ (q : Recorded). swapped q m) c.self.view_is
+    ∙ ap (λ (q : Recorded). with_record q m) c.self.view_is

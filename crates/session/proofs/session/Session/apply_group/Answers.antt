@@ -4,7 +4,7 @@ use Rattle.history.specs.Boards.{Timeline, boards}
 use Rattle.history.proofs.Timelines.{length-past, boards_same}
 use Rattle.network.proofs.Following.{frame_all}
 use Rattle.flow_solver.specs.Moment.{Moment}
-use Rattle.session.specs.Record.{Recorded, swapped}
+use Rattle.session.specs.Record.{Recorded, with_record}
 use Rattle.session.specs.Session.{Stack}
 use Rattle.session.proofs.Apart.{kept_few}
 use Rattle.session.proofs.Applying.{changes_are, was_there, led}
@@ -30,11 +30,11 @@ invariant_of-self-in-Ok g c =
     let fits = c.in-Ok.ensures.fits in
     let kept = kept_same c.self.inside.history c.reserve_one.new.self m c.reserve_one.ensures.past c.reserve_one.ensures.future c.self.invariant.kept in
     let advances = rw leads at (c.push.ensures.boards d fits) in
-    let same = ap (λ (t : Timeline Moment). length t.past) (boards_same swapped c.self.inside.history c.reserve_one.new.self m c.reserve_one.ensures.past c.reserve_one.ensures.future) in
+    let same = ap (λ (t : Timeline Moment). length t.past) (boards_same with_record c.self.inside.history c.reserve_one.new.self m c.reserve_one.ensures.past c.reserve_one.ensures.future) in
     let here = c.steps-past.ensures.past ∙ ap (λ (s : Stack). length s.moments.past) (sym c.self.view_is) ∙ sym same in
     record {
       kept = kept_push c.reserve_one.new.self c.push.new.self c.in-Ok.record m d kept fits c.in-Ok.ensures.exact leads did.answered c.push.ensures.past c.push.ensures.future advances;
-      marked = rw c.keep_up_to.ensures (on_new (boards swapped c.reserve_one.new.self m) (boards swapped c.push.new.self d) c.self.inside.marks c.steps-past.result.0 advances here);
+      marked = rw c.keep_up_to.ensures (on_new (boards with_record c.reserve_one.new.self m) (boards with_record c.push.new.self d) c.self.inside.marks c.steps-past.result.0 advances here);
       few = rw c.keep_up_to.ensures (kept_few c.self.inside.marks c.steps-past.result.0 c.self.invariant.few);
     }
 
@@ -51,7 +51,7 @@ returns-in-Ok-clause-records g c =
     let r = c.in-Ok.record in
     let past = c.push.ensures.past ∙ ap (λ (rs : List Recorded). rs ++ r ∷ []) c.reserve_one.ensures.past in
     let all = ap₂ ◌++◌ past c.push.ensures.future ∙ append-nil (h.past ++ r ∷ []) in
-    let kept = take_at h.past h.future (length (boards swapped h c.self.inside.tables.moment).past) (sym (length-past swapped h c.self.inside.tables.moment)) in
+    let kept = take_at h.past h.future (length (boards with_record h c.self.inside.tables.moment).past) (sym (length-past with_record h c.self.inside.tables.moment)) in
     rw (← c.self.view_is) (r, all ∙ sym (ap (λ (rs : List Recorded). rs ++ r ∷ []) kept), rw (was_there c.change_all-pushes.new.self c.self.inside.tables.moment c.change_all-pushes.ensures.before) at c.in-Ok.ensures.parts)
 
 -- edits keep the kind

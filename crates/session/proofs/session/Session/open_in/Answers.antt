@@ -6,8 +6,8 @@ use Rattle.flow_solver.specs.Answer.{IsAnswered}
 use Rattle.flow_solver.specs.Moment.{Moment}
 use Rattle.session.specs.declared.marks.Mark.{Mark}
 use Rattle.session.specs.Marks.{AreMarks, AreOn}
-use Rattle.session.specs.Record.{Recorded, RecordFits, Differs, swapped}
-use Rattle.session.specs.Session.{IsHeld}
+use Rattle.session.specs.Record.{Recorded, RecordFits, Differs, with_record}
+use Rattle.session.specs.Session.{IsSessionAt}
 use Rattle.session.proofs.Apart.{none_at_first}
 use Rattle.session.proofs.session.Session.open_in.Goals as goal
 
@@ -17,21 +17,21 @@ all_one m answered zero d below = answered
 all_one m answered (suc i) d below = absurd (omega arith)
 
 -- with no change and no mark an answered moment is all that is held
-held_fresh : (h : Changes Recorded) (m : Moment) (marks : List Mark) → h.past ≡ [] → h.future ≡ [] → IsAnswered m → marks ≡ [] → IsHeld h m marks
+held_fresh : (h : Changes Recorded) (m : Moment) (marks : List Mark) → h.past ≡ [] → h.future ≡ [] → IsAnswered m → marks ≡ [] → IsSessionAt h m marks
 held_fresh h m marks past future answered none = record {
   kept = record {
     stands = record {
-      back = subst (λ (p : List Recorded). FitInTurn RecordFits swapped (reverse p) m) (sym past) tt;
-      forward = subst (λ (p : List Recorded). FitInTurn RecordFits swapped p m) (sym future) tt;
+      back = subst (λ (p : List Recorded). FitInTurn RecordFits with_record (reverse p) m) (sym past) tt;
+      forward = subst (λ (p : List Recorded). FitInTurn RecordFits with_record p m) (sym future) tt;
     };
     exact = record {
-      back = subst (λ (p : List Recorded). FitInTurn Differs swapped (reverse p) m) (sym past) tt;
-      forward = subst (λ (p : List Recorded). FitInTurn Differs swapped p m) (sym future) tt;
+      back = subst (λ (p : List Recorded). FitInTurn Differs with_record (reverse p) m) (sym past) tt;
+      forward = subst (λ (p : List Recorded). FitInTurn Differs with_record p m) (sym future) tt;
     };
-    answered = subst (λ (p : List Recorded). All IsAnswered (reverse (met swapped (reverse p) m) ++ m ∷ met swapped h.future m)) (sym past)
-        (subst (λ (p : List Recorded). All IsAnswered (m ∷ met swapped p m)) (sym future) (all_one m answered));
+    answered = subst (λ (p : List Recorded). All IsAnswered (reverse (met with_record (reverse p) m) ++ m ∷ met with_record h.future m)) (sym past)
+        (subst (λ (p : List Recorded). All IsAnswered (m ∷ met with_record p m)) (sym future) (all_one m answered));
   };
-  marked = subst (λ (ms : List Mark). AreOn (boards swapped h m) ms) (sym none) (All-nil (λ (mark : Mark). mark.moment < length (all_boards (boards swapped h m))));
+  marked = subst (λ (ms : List Mark). AreOn (boards with_record h m) ms) (sym none) (All-nil (λ (mark : Mark). mark.moment < length (all_boards (boards with_record h m))));
   few = subst AreMarks (sym none) none_at_first;
 }
 
