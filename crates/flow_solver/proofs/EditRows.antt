@@ -17,6 +17,7 @@ use Rattle.network.proofs.EditedLemmas.{demand_ok, numbered_ok}
 use Rattle.network.proofs.EditedShape.{done_is}
 use Rattle.residual_graph.specs.Residual.{IsWithinRow, number_at}
 use Rattle.residual_graph.proofs.GraphLemmas.{with_row, lawful_more}
+use Rattle.flow_solver.specs.Part.{OfArc, place_of_edit}
 use Rattle.flow_solver.specs.TablesView.{flow_index}
 use Rattle.flow_solver.specs.Edit.{IsNearest, IsRowEdit, IsSupplyEdit, IsAltered, IsOfArc, GoesToNearest, IsAddEdit, IsMade, row_after_edit}
 use Rattle.flow_solver.proofs.FlowLaws.{bounds_at, bounds_length, signs_at}
@@ -97,6 +98,11 @@ altered_by J (Supply v value) q x start of goes = absurd of
 altered_by J (Add t h l c k) q x start of goes = absurd of
 altered_by J _ q x start of goes = goes
 
+place_of_arc : (edit : Edit) → IsOfArc edit → place_of_edit edit ≡ OfArc (arc_of edit)
+place_of_arc (Supply v value) of = absurd of
+place_of_arc (Add tail head low cap cost) of = absurd of
+place_of_arc _ of = refl
+
 pub row_edit : (I : Instance) (edit : Edit) (old : ArcRow) → KeepsLawful I edit → IsLawful I → IsOk (edited I edit) → IsOfArc edit → arc_at I.arcs (arc_of edit) ≡ Some old → IsRowEdit I edit (arc_of edit) (row_after_edit edit old)
 row_edit I edit old keeps lawful ok of is =
     let k = arc_of edit in
@@ -108,6 +114,7 @@ row_edit I edit old keeps lawful ok of is =
     let low = rw (row_there I.arcs k old old is) at ((lawful.arcs (k - 1) old (omega (arith, at.0, at.1))).0.low) in
     let both = rw (get_or-set_same I.arcs (k - 1) row row (omega (arith, at.0, at.1))) at (lawful_after.arcs (k - 1) row (omega (arith, at.0, at.1, length-set I.arcs (k - 1) row))) in
     record {
+      place = place_of_arc edit of;
       arc = at;
       tail = (same_ends edit old).0 ∙ ap (λ (a : ArcRow). a.tail) (sym there);
       head = (same_ends edit old).1 ∙ ap (λ (a : ArcRow). a.head) (sym there);

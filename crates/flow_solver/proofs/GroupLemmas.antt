@@ -1,7 +1,7 @@
 -- Edits that are made together: what they leave of a flow, and how what is logged of them leads back.
-use Rattle.std.proofs.Common.{◌≡◌, ℕ, ◌+◌, ◌-◌, ◌<◌, ◌≤◌, ℤ, pos, ◌+ℤ◌, ◌≤ℤ◌, List, [], ◌∷◌, ◌++◌, length, take, drop, get_or, refl, sym, ap, subst, ◌∙◌, arith, rules, Result, Ok, Err, IsOk}
+use Rattle.std.proofs.Common.{◌≡◌, ℕ, ◌+◌, ◌-◌, ◌<◌, ◌≤◌, ℤ, pos, ◌+ℤ◌, ◌≤ℤ◌, List, [], ◌∷◌, ◌++◌, length, map, take, drop, get_or, refl, sym, ap, ap₂, subst, ◌∙◌, arith, rules, Result, Ok, Err, IsOk}
 use Rattle.std.proofs.lemmas.Int.{ints}
-use Rattle.std.proofs.lemmas.List.{drop_more, take_more, length-append, length-set, length-take-le}
+use Rattle.std.proofs.lemmas.List.{drop_more, take_more, length-append, length-set, length-take-le, map_push}
 use Rattle.dimacs_text.specs.declared.command.Edit.{Edit}
 use Rattle.network.specs.Edited.{edited, edited_all, and_then, units, units_all, and_units}
 use Rattle.network.specs.Flow.{IsCertifiedFlow, total_excess}
@@ -12,7 +12,7 @@ use Rattle.flow_solver.specs.declared.part.Part.TheVariants.{Arc, Supply, Last, 
 use Rattle.flow_solver.specs.TablesView.{TablesView}
 use Rattle.flow_solver.specs.Edit.{AreChanges, AreMade, CanMake, IsChange, IsMade, IsMadeIn}
 use Rattle.flow_solver.specs.Moment.{Snapshot}
-use Rattle.flow_solver.specs.Part.{before_all, before_part, CanTakeBack, CanTakeBackAll, IsLogged, LeadsBack, TakesBack, return_count}
+use Rattle.flow_solver.specs.Part.{before_all, before_part, place_of_edit, place_of_part, AreLogged, CanTakeBack, CanTakeBackAll, InstancePlace, IsLogged, LeadsBack, TakesBack, return_count}
 use Rattle.flow_solver.proofs.TablesViewLemmas.{return_count_before}
 
 -- ---- what the edits make
@@ -93,7 +93,8 @@ pub record IsMaking (i : ℕ) (edits : List Edit) (old now : TablesView) : Type 
   pub potentials : now.moment.potentials ≡ old.moment.potentials
   pub back : LeadsBack now.kept.log old.moment.instance now.moment.instance
   pub kept : now.kept ≡ record old.kept { log = now.kept.log }
-  pub logged : length now.kept.log ≡ i
+  pub logged : AreLogged (take i edits) now.kept.log
+  pub count : length now.kept.log ≡ i
 
 pub making_start : (edits : List Edit) (old : TablesView) → old.kept.log ≡ [] → IsCertifiedFlow (reduced old.moment.instance) old.moment.flow (at_node old.moment.potentials) → IsOk (edited_all old.moment.instance edits) → IsMaking 0 edits old old
 making_start edits old fresh certified accepted = record {
@@ -103,7 +104,8 @@ making_start edits old fresh certified accepted = record {
   potentials = refl;
   back = rw fresh (record { can = tt; back = refl });
   kept = refl;
-  logged = ap (λ (log : List Part). length log) fresh;
+  logged = ap (map place_of_part) fresh;
+  count = ap (λ (log : List Part). length log) fresh;
 }
 
 pub making_fits : (i : ℕ) (edits : List Edit) (old now : TablesView) (d : Edit) → i < length edits → IsMaking i edits old now → CanMake (get_or edits i d) now.moment
@@ -127,13 +129,19 @@ making_more i edits old now noted next d below making same logged in_noted =
       potentials = in_noted.potentials ∙ ap (λ m. m.potentials) same ∙ making.potentials;
       back = rw log (leads_push now.kept.log old.moment.instance now.moment.instance next.moment.instance edit logged.part making.back made.after logged.takes_back);
       kept = in_noted.kept ∙ logged.now_is ∙ ap (λ (k : Snapshot). record k { log = now.kept.log ++ logged.part ∷ [] }) making.kept ∙ ap (λ (ps : List Part). record old.kept { log = ps }) (sym log);
-      logged = ap (λ (ps : List Part). length ps) log ∙ length-append now.kept.log (logged.part ∷ []) ∙ ap (λ (n : ℕ). n + 1) making.logged;
+      logged =
+          ap (map place_of_part) log
+          ∙ map_push place_of_part now.kept.log logged.part
+          ∙ ap₂ (λ (places : List InstancePlace) (place : InstancePlace). places ++ place ∷ []) making.logged logged.place
+          ∙ sym (map_push place_of_edit (take i edits) edit)
+          ∙ ap (map place_of_edit) (sym (take_more edits i d below));
+      count = ap (λ (ps : List Part). length ps) log ∙ length-append now.kept.log (logged.part ∷ []) ∙ ap (λ (n : ℕ). n + 1) making.count;
     }
 
 -- ---- the loop that takes them back
 
 -- an instance has no fewer arcs than the one before
-arcs_before : (part : Part) (I : Instance) → CanTakeBack part I → length (before_part part I).arcs ≤ length I.arcs
+pub arcs_before : (part : Part) (I : Instance) → CanTakeBack part I → length (before_part part I).arcs ≤ length I.arcs
 arcs_before (Arc k row) I can = (let same = length-set I.arcs (k - 1) row in omega (arith, same))
 arcs_before (Supply v value) I can = omega arith
 arcs_before Last I can = (let less = length-take-le (length I.arcs - 1) I.arcs (omega arith) in omega (arith, less))

@@ -1,5 +1,6 @@
 -- What a log tells of the instance before it: its arcs, its supplies and its flow, place by place.
 use Rattle.std.proofs.Common.{◌≡◌, ◌≢◌, ℕ, zero, suc, ◌+◌, ◌-◌, ◌<◌, ◌≤◌, ℤ, pos, List, [], ◌∷◌, length, take, drop, get_or, slice_set, slice_get, refl, sym, ap, subst, ◌∙◌, inl, inr, arith, Option, None, Some, IsSome}
+use Rattle.std.specs.Prelude.{IfSome}
 use Rattle.std.proofs.lemmas.Bool.{cases_lt}
 use Rattle.std.proofs.lemmas.List.{drop_more, get_or-set_same, get_or-set_other, length-set, length-take-le}
 use Rattle.std.proofs.lemmas.Option.{slice_get-get_or, slice_get_past}
@@ -13,7 +14,7 @@ use Rattle.flow_solver.specs.declared.part.Part.{Part}
 use Rattle.flow_solver.specs.declared.part.Part.TheVariants.{Arc, Supply, Last}
 use Rattle.flow_solver.specs.declared.verdict.Verdict.{Verdict}
 use Rattle.flow_solver.specs.Moment.{Snapshot}
-use Rattle.flow_solver.specs.Part.{before_all, before_of, before_part, CanTakeBack, CanTakeBackAll, IsKept, return_count}
+use Rattle.flow_solver.specs.Part.{before_all, before_of, before_part, CanTakeBack, CanTakeBackAll, IsKept, LeadsBack, return_count}
 use Rattle.flow_solver.proofs.TablesViewLemmas.{return_count_before}
 use Rattle.flow_solver.proofs.GroupLemmas.{length-rows}
 
@@ -154,6 +155,13 @@ supply_passed v u i value log d I supply differ can some is at =
       node = λ node. at.node node ∙ ap Some (sym (ap (λ (J : Instance). reduced_supply J.demand v) back ∙ supply_there (before_all rest I).demand u v value differ fits.1.0 node.0));
       no_node = at.no_node;
     }
+
+-- ---- the moment before
+
+-- it leads back to that moment
+pub leads_before : (told : Option Verdict) (I : Instance) (kept : Snapshot) → IsKept told I kept → IfSome (before_of told I kept) (λ old. LeadsBack kept.log old.instance I)
+leads_before None I kept is = tt
+leads_before (Some verdict) I kept is = record { can = is.0; back = refl }
 
 -- ---- flows
 

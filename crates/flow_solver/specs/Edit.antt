@@ -12,6 +12,7 @@ use Rattle.dimacs_text.specs.declared.command.Edit.TheVariants.{Cap, Low, Cost, 
 use Rattle.residual_graph.specs.Residual.{number_at, row_at, IsWithinRow}
 use Rattle.augmentation.specs.Push.{Pushes}
 use Rattle.flow_solver.specs.Moment.{Moment}
+use Rattle.flow_solver.specs.Part.{OfArc, place_of_edit}
 use Rattle.flow_solver.specs.TablesView.{TablesView, flow_index}
 
 -- z is the flow nearest to x that the bounds of the arc and the sign of its reduced cost allow
@@ -99,6 +100,7 @@ row_after_edit _ row = row
 
 -- the edit changes arc k of the instance into `row`, by which a flow that keeps the sign rule moves by no more than the edit's units
 pub record IsRowEdit (I : Instance) (edit : Edit) (k : ℕ) (row : ArcRow) : Type 0 where
+  pub place : place_of_edit edit ≡ OfArc k
   pub arc : (1 ≤ k) × (k ≤ length I.arcs)
   pub tail : row.tail ≡ (slice_index_or I.arcs (k - 1) row).tail
   pub head : row.head ≡ (slice_index_or I.arcs (k - 1) row).head

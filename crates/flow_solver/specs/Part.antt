@@ -1,7 +1,8 @@
 -- How the last change of an instance is taken back, part by part.
-use Rattle.std.specs.Prelude.{◌≡◌, ℕ, ◌-◌, ◌<◌, List, [], ◌∷◌, ◌++◌, length, take, Option, None, Some, Ok, slice_set}
+use Rattle.std.specs.Prelude.{◌≡◌, ℕ, ◌-◌, ◌<◌, List, [], ◌∷◌, ◌++◌, length, map, take, Option, None, Some, IfSome, Ok, slice_set}
 use Rattle.dimacs_text.specs.Lawful.{IsNode, IsWithin}
 use Rattle.dimacs_text.specs.declared.command.Edit.{Edit}
+use Rattle.dimacs_text.specs.declared.command.Edit.TheVariants as edits
 use Rattle.dimacs_text.specs.declared.problem.TheConstants.{SUPPLY_LIMIT}
 use Rattle.dimacs_text.specs.declared.problem.Kind.TheVariants.{Min}
 use Rattle.network.specs.Edited.{edited}
@@ -10,7 +11,31 @@ use Rattle.flow_solver.specs.declared.part.Part.{Part}
 use Rattle.flow_solver.specs.declared.part.Part.TheVariants.{Arc, Supply, Last, Gone}
 use Rattle.flow_solver.specs.declared.verdict.Verdict.{Verdict}
 use Rattle.flow_solver.specs.Moment.{Snapshot, Moment}
-use Rattle.flow_solver.specs.TablesView.{HasEnds, IsRowOf}
+use Rattle.flow_solver.specs.TablesView.{HasEnds, IsRowOf, TablesView}
+
+-- a place of an instance that an edit changes
+pub data InstancePlace : Type 0 where
+  OfArc : ℕ → InstancePlace
+  OfNode : ℕ → InstancePlace
+  OfNewArc : InstancePlace
+
+abbrev pub place_of_part : Part → InstancePlace
+place_of_part (Arc k row) = OfArc k
+place_of_part (Supply id value) = OfNode id
+place_of_part Last = OfNewArc
+place_of_part (Gone row flow) = OfNewArc
+
+abbrev pub place_of_edit : Edit → InstancePlace
+place_of_edit (edits.Cap arc cap) = OfArc arc
+place_of_edit (edits.Low arc low) = OfArc arc
+place_of_edit (edits.Cost arc cost) = OfArc arc
+place_of_edit (edits.Supply node value) = OfNode node
+place_of_edit (edits.Add tail head low cap cost) = OfNewArc
+place_of_edit (edits.Close arc) = OfArc arc
+
+-- a part was logged for each edit, at its place
+abbrev pub AreLogged : List Edit → List Part → Type 0
+AreLogged edits log = map place_of_part log ≡ map place_of_edit edits
 
 -- the instance before the change
 abbrev pub before_part : Part → Instance → Instance
@@ -45,10 +70,15 @@ pub record LeadsBack (log : List Part) (I J : Instance) : Type 0 where
   pub can : CanTakeBackAll log J
   pub back : before_all log J ≡ I
 
+-- it leads back from the moment that the tables hold to the one before, where there is one
+abbrev pub LeadsBefore : List Part → TablesView → Type 0
+LeadsBefore log shown = IfSome shown.before (λ old. LeadsBack log old.instance shown.moment.instance)
+
 -- what the edit replaces was logged, and all else that was kept stays
 pub record IsLogged (I : Instance) (edit : Edit) (kept now : Snapshot) : Type 0 where
   pub part : Part
   pub takes_back : TakesBack I edit part
+  pub place : place_of_part part ≡ place_of_edit edit
   pub now_is : now ≡ record kept { log = kept.log ++ part ∷ [] }
 
 -- the moment before, where it can be given back: what was kept, with what was told of it then

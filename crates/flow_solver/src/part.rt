@@ -33,13 +33,14 @@ pub struct Before {
     pub verdict: Option<Verdict>,
 }
 
-ghost use Rattle.flow_solver.specs.Part.{before_all, return_count, CanTakeBackAll, TakesBack};
+ghost use Rattle.flow_solver.specs.Part.{before_all, place_of_edit, place_of_part, return_count, CanTakeBackAll, TakesBack};
 
 /// What an accepted edit will replace.
 pub fn part_of(net: &Network, edit: &Edit) -> Part
     requires lawful { IsLawful net.now }
     requires accepted { IsOk (edited net.now edit.now) }
-    ensures { TakesBack net.now edit.now result }
+    ensures takes_back { TakesBack net.now edit.now result }
+    ensures place { place_of_part result ≡ place_of_edit edit.now }
 {
     edits_keep_lawful();
     match edit {

@@ -9,10 +9,10 @@ ghost use Rattle.network.specs.Instance.{arc_at, reduced_supply};
 ghost use Rattle.tracked.specs.Touched.{NameChanges};
 ghost use Rattle.flow_solver.specs.Edit.{IsCertifiedMoment};
 ghost use Rattle.flow_solver.specs.Moment.{IsStart, arc_flows};
-ghost use Rattle.flow_solver.specs.Part.{return_count};
+ghost use Rattle.flow_solver.specs.Part.{return_count, LeadsBefore};
 
 use crate::balance::Balance;
-use crate::part::{Before, return_count, row_before, supply_before};
+use crate::part::{Before, Part, return_count, row_before, supply_before};
 use crate::potentials::Potentials;
 use crate::start::{start_balance, start_nodes};
 use crate::verdict::Verdict;
@@ -193,6 +193,15 @@ impl Tables {
         ensures apart { AllPairs ◌≢◌ result.now }
     {
         self.cut.table().places()
+    }
+
+    /// What each edit of the last change replaced, in their order: the parts that lead back before it, the last first.
+    pub fn old_parts(&self) -> &[Part]
+        requires { IsSome self.now.before }
+        ensures logged { result.now ≡ self.now.kept.log }
+        ensures back { LeadsBefore result.now self.now }
+    {
+        &self.before.log
     }
 
     /// The arc with this number before the last change, if it was there.

@@ -1,21 +1,16 @@
 -- What accepted edits leave in the tables.
-use Rattle.std.proofs.Common.{◌≡◌, List, [], ◌∷◌, Option, Some, Result, Ok, Err, IfOk, OnOk, sym, ap, ◌∙◌}
+use Rattle.std.proofs.Common.{◌≡◌, [], ◌∷◌, Option, Some, Result, Ok, Err, IfOk, OnOk, sym, ap, ◌∙◌}
 use Rattle.std.specs.Option.{unwrap_or}
 use Rattle.dimacs_text.specs.declared.command.Edit.{Edit}
-use Rattle.network.specs.Edited.{edited_all}
 use Rattle.network.specs.Instance.{at_node}
 use Rattle.network.proofs.EditedAll.{edited_one}
 use Rattle.flow_solver.specs.Moment.{Moment}
-use Rattle.flow_solver.specs.Answer.{IsAnswered}
 use Rattle.flow_solver.specs.TablesView.{TablesView}
 use Rattle.flow_solver.proofs.GroupLemmas.{one_change}
-use Rattle.session.specs.Session.{AreAcceptedEdits, AreEdited, IsEdited, old_moment}
+use Rattle.session.specs.Session.{AreEdited, IsEdited, old_moment}
 
 pub was_there : (shown : TablesView) (old : Moment) → shown.before ≡ Some old → old_moment shown ≡ old
 was_there shown old is = ap (λ (o : Option Moment). unwrap_or o shown.moment) is
-
-pub changes_are : (shown : TablesView) (old : Moment) (edits : List Edit) → shown.before ≡ Some old → IsAnswered old → edited_all old.instance edits ≡ Ok shown.moment.instance → IsAnswered shown.moment → AreAcceptedEdits edits (old_moment shown) shown.moment
-changes_are shown old edits is was accepted answered = rw (was_there shown old is) record { before = was; accepted = accepted; after = answered }
 
 pub led : (o : Option Moment) (a b : Moment) → o ≡ Some a → o ≡ Some b → a ≡ b
 led o a b is_a is_b = cc

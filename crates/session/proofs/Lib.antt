@@ -12,6 +12,8 @@ mod SameKind
 mod Moving
 mod Names
 mod Leading
+mod Firsts
+mod Logged
 mod Recording
 mod Applying
 mod Placing

@@ -14,6 +14,7 @@ use Rattle.network.specs.Edited.{edited}
 use Rattle.network.specs.Instance.{Instance}
 use Rattle.network.proofs.EditedShape.{IsChangedBy, changed_by_edit}
 use Rattle.flow_solver.specs.Moment.{Moment}
+use Rattle.flow_solver.specs.Part.{InstancePlace, OfArc, OfNode, OfNewArc, place_of_part, place_of_edit}
 use Rattle.flow_solver.specs.TablesView.{supplies_in}
 use Rattle.flow_solver.specs.declared.part.Part.{Part}
 use Rattle.flow_solver.specs.declared.part.Part.TheVariants.{Last}
@@ -23,7 +24,7 @@ use Rattle.session.specs.Parts.{Named, named, listed, supply_parts, arc_parts, g
 use Rattle.session.specs.PartsLaws.{turned_flows}
 use Rattle.session.specs.Group.{arcs_of, arcs_added, valued, AreNames, ArePartsOf}
 use Rattle.session.specs.Record.{Recorded, with_record, record_turned, RecordFits}
-use Rattle.session.specs.Session.{InstancePlace, OfArc, OfNode, OfNewArc, place_of_part, places_of, place_of_edit, IsHistoryAt}
+use Rattle.session.specs.Session.{places_of, IsHistoryAt}
 
 -- ---- the places of a group of one
 

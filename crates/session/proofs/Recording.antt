@@ -1,32 +1,29 @@
 -- The record of a change fits the tables, leads to the moment before it, and names only what differs.
 use Rattle.std.proofs.Common.{◌≡◌, ℕ, ◌-◌, ◌≤◌, ℤ, Bool, List, [], ◌++◌, length, take, drop, Option, Some, None, IsSome, IfSome, refl, sym, ap, subst, ◌∙◌, arith}
 use mathlib.Core.Bool.{false≢true}
-use Rattle.std.specs.List.{All}
+use Rattle.std.specs.List.{All, filter}
 use Rattle.std.specs.Option.{unwrap_or}
 use Rattle.std.proofs.lemmas.List.{take_all, drop_all, take_at, append-nil}
-use Rattle.dimacs_text.specs.declared.command.Edit.{Edit}
 use Rattle.network.specs.Flow.{IsPotential}
-use Rattle.network.specs.Instance.{Demand, Supplies, Terminals, Sides, Instance, IsLawful}
+use Rattle.network.specs.Instance.{Demand, Supplies, Terminals, Sides, Instance}
 use Rattle.network.proofs.Answering.{potentials_from}
 use Rattle.flow_solver.specs.declared.verdict.Verdict.{Verdict}
 use Rattle.flow_solver.specs.Moment.{Moment, VerdictFits, returned}
 use Rattle.flow_solver.specs.Answer.{IsAnswered}
 use Rattle.flow_solver.specs.Touched.{NameChanges}
-use Rattle.flow_solver.specs.TablesView.{IsFlowValue, supplies_in}
-use Rattle.flow_solver.specs.Part.{return_count}
+use Rattle.flow_solver.specs.TablesView.{IsFlowValue}
+use Rattle.flow_solver.specs.Part.{return_count, LeadsBack}
 use Rattle.flow_solver.proofs.AnswerLemmas.{verdict_fits, flow_told, flows_within}
 use Rattle.flow_solver.specs.declared.part.Part.{Part}
-use Rattle.session.specs.Group.{nodes_of, arcs_of, AreNames, ArePartsOf, ArePlaces}
+use Rattle.session.specs.Group.{is_there, last_parts, rank, AreFirst}
 use Rattle.session.specs.Places.{exchanged, PlacesFit, AreFound, ended}
 use Rattle.session.specs.PlacesLaws.{length-exchanged}
-use Rattle.session.specs.Parts.{Named, named, flow_of, demand_swapped, instance_swapped}
+use Rattle.session.specs.Parts.{Named, named, flow_of, demand_swapped, instance_swapped, PartsLeadBack}
 use Rattle.session.specs.Record.{Recorded, with_record, IsMomentInRange, IsMark, RecordFits, Differs}
 use Rattle.session.specs.ReturnLaws.{returned-swapped, verdict_fits-swapped}
+use Rattle.session.proofs.Logged.{parts_back, AreNamedBy, AreOf}
 use Rattle.session.proofs.Returns.{length-numbered}
 use Rattle.session.specs.RecordLaws.{moment_is}
-use Rattle.session.specs.Session.{AreAcceptedEdits}
-use Rattle.session.proofs.Leading.{KeepLawful, PartsLeadBack, leads_back, nodes_are_there, arcs_are_there}
-use Rattle.session.proofs.Names.{names_are}
 
 -- an answered moment is within the limits
 pub in_range_answered : (m : Moment) → IsAnswered m → IsMomentInRange m
@@ -119,11 +116,11 @@ is_record_of parts old m flows potentials marks old_answered answered leads flow
 
 -- ---- what the tables tell of the last change
 
-module _ (keep : KeepLawful) (before : Option Moment) (m : Moment) (edits : List Edit) (some : IsSome before) (change : AreAcceptedEdits edits (unwrap_or before m) m) where
-  abbrev was_moment : Moment
+module _ (before : Option Moment) (m : Moment) (some : IsSome before) (was_answered : IsAnswered (unwrap_or before m)) (answered : IsAnswered m) where
+  abbrev pub was_moment : Moment
   was_moment = unwrap_or before m
 
-  from_some : (P : Moment → Type 0) → IfSome before P → P was_moment
+  pub from_some : (P : Moment → Type 0) → IfSome before P → P was_moment
   from_some P holds = by before some holds
     where
       by : (o : Option Moment) → IsSome o → IfSome o P → P (unwrap_or o m)
@@ -137,45 +134,37 @@ module _ (keep : KeepLawful) (before : Option Moment) (m : Moment) (edits : List
       by None is = absurd (false≢true is)
       by (Some old) is = refl
 
-  pub was_lawful : IsLawful was_moment.instance
-  was_lawful = (in_range_answered was_moment change.before).lawful
-
-  -- the places that the edits name are there
-  pub nodes_named : (names : List ℕ) → AreNames names (nodes_of edits) → ArePlaces (length (supplies_in was_moment.instance.demand)) names
-  nodes_named names are =
-      names_are (λ (k : ℕ). (1 ≤ k) × (k ≤ length (supplies_in was_moment.instance.demand))) names (nodes_of edits) are (nodes_are_there edits was_moment.instance m.instance keep was_lawful change.accepted)
-
   -- how many arcs there were
   pub old_arcs : (xs : List ℤ) → IfSome before (λ old. xs ≡ flow_of old) → length xs ≡ length was_moment.instance.arcs
   old_arcs xs is_xs =
       let old_is : xs ≡ flow_of was_moment = from_some (λ old. xs ≡ flow_of old) is_xs in
-      ap length old_is ∙ (in_range_answered was_moment change.before).one_an_arc
+      ap length old_is ∙ (in_range_answered was_moment was_answered).one_an_arc
 
-  pub arcs_named : (names : List ℕ) → AreNames names (arcs_of (length was_moment.instance.arcs) edits) → ArePlaces (length was_moment.instance.arcs) names
-  arcs_named names are =
-      names_are (λ (k : ℕ). (1 ≤ k) × (k ≤ length was_moment.instance.arcs)) names (arcs_of (length was_moment.instance.arcs) edits) are
-      (arcs_are_there (length was_moment.instance.arcs) edits was_moment.instance m.instance keep (omega arith) was_lawful change.accepted)
+  -- the parts that were logged first, and one for each arc that was added
+  pub named_back : (log firsts parts : List Part) (flow : List ℤ) (nodes : ℕ) → IfSome before (λ old. LeadsBack log old.instance m.instance) → IfSome before (λ old. flow ≡ flow_of old) → nodes ≡ m.instance.nodes
+      → AreFirst (rank nodes) (filter (is_there (length flow)) log) firsts → parts ≡ firsts ++ last_parts log → LeadsBack log was_moment.instance m.instance × AreNamedBy was_moment.instance log parts
+  named_back log firsts parts flow nodes leads is_flow is_nodes first are =
+      let back : LeadsBack log was_moment.instance m.instance = from_some (λ old. LeadsBack log old.instance m.instance) leads in
+      let of : AreOf was_moment.instance m.instance log firsts = record { leads = back; first = rw (is_nodes, old_arcs flow is_flow) at first; lawful = answered.sized.lawful } in
+      (back, parts_back was_moment.instance m.instance log firsts of parts are)
 
-  module _ (parts : List Part) (are : ArePartsOf edits was_moment.instance parts) where
-    back : PartsLeadBack parts was_moment.instance m.instance
-    back = leads_back keep edits was_moment.instance m.instance parts was_lawful (in_range_answered m change.after).lawful change.accepted are
-
+  module _ (parts : List Part) (back : PartsLeadBack parts was_moment.instance m.instance) where
     pub fewer_flows : (xs ys : List ℤ) → IfSome before (λ old. xs ≡ flow_of old) → ys ≡ flow_of m → length xs ≤ length ys
     fewer_flows xs ys is_xs is_ys =
-        let kept = in_range_answered m change.after in
+        let kept = in_range_answered m answered in
         omega (arith, old_arcs xs is_xs, ap length is_ys, kept.one_an_arc, back.shared_arcs)
 
     pub same_potentials : (xs ys : List ℤ) → IfSome before (λ old. xs ≡ old.potentials) → ys ≡ m.potentials → length xs ≤ length ys
     same_potentials xs ys is_xs is_ys =
-        let was = in_range_answered was_moment change.before in
-        let kept = in_range_answered m change.after in
+        let was = in_range_answered was_moment was_answered in
+        let kept = in_range_answered m answered in
         let nodes = nodes_same (named parts) was_moment.instance m.instance back.back in
         omega (arith, ap length (from_some (λ old. xs ≡ old.potentials) is_xs), ap length is_ys, was.one_a_node, kept.one_a_node, nodes)
 
     pub same_marks : (xs ys : List Bool) → IfSome before (λ old. xs ≡ old.cut) → ys ≡ m.cut → length xs ≤ length ys
     same_marks xs ys is_xs is_ys =
-        let was = in_range_answered was_moment change.before in
-        let kept = in_range_answered m change.after in
+        let was = in_range_answered was_moment was_answered in
+        let kept = in_range_answered m answered in
         let nodes = nodes_same (named parts) was_moment.instance m.instance back.back in
         omega (arith, ap length (from_some (λ old. xs ≡ old.cut) is_xs), ap length is_ys, was.marks, kept.marks, nodes)
 
@@ -187,10 +176,10 @@ module _ (keep : KeepLawful) (before : Option Moment) (m : Moment) (edits : List
       subst (λ (n : ℕ). NameChanges n places xs ys) (sym is_first)
       (subst (λ (zs : List T). NameChanges (first_in was_moment) places zs ys) (sym old_is) (subst (λ (zs : List T). NameChanges (first_in was_moment) places (list_of was_moment) zs) (sym is_ys) named))
 
-  pub flows_named : (parts : List Part) → ArePartsOf edits was_moment.instance parts → (first : ℕ) (places : List ℕ) (xs ys : List ℤ) → first ≡ return_count m.instance.demand → IfSome before (λ old. NameChanges (return_count old.instance.demand) places (flow_of old) (flow_of m)) → IfSome before (λ old. xs ≡ flow_of old) → ys ≡ flow_of m → NameChanges first places xs ys
-  flows_named parts are first places xs ys is_first =
+  pub flows_named : (parts : List Part) → PartsLeadBack parts was_moment.instance m.instance → (first : ℕ) (places : List ℕ) (xs ys : List ℤ) → first ≡ return_count m.instance.demand → IfSome before (λ old. NameChanges (return_count old.instance.demand) places (flow_of old) (flow_of m)) → IfSome before (λ old. xs ≡ flow_of old) → ys ≡ flow_of m → NameChanges first places xs ys
+  flows_named parts back first places xs ys is_first =
       let same : return_count m.instance.demand ≡ return_count was_moment.instance.demand =
-      sym (count_same (named parts).supplies m.instance.demand) ∙ ap (λ (I : Instance). return_count I.demand) (back parts are).back in
+      sym (count_same (named parts).supplies m.instance.demand) ∙ ap (λ (I : Instance). return_count I.demand) back.back in
       changes_named first (λ old. return_count old.instance.demand) flow_of places xs ys (is_first ∙ same)
 
   pub potentials_named : (places : List ℕ) (xs ys : List ℤ) → IfSome before (λ old. NameChanges 1 places old.potentials m.potentials) → IfSome before (λ old. xs ≡ old.potentials) → ys ≡ m.potentials → NameChanges 1 places xs ys
@@ -199,12 +188,12 @@ module _ (keep : KeepLawful) (before : Option Moment) (m : Moment) (edits : List
   pub marks_named : (places : List ℕ) (xs ys : List Bool) → IfSome before (λ old. NameChanges 1 places old.cut m.cut) → IfSome before (λ old. xs ≡ old.cut) → ys ≡ m.cut → NameChanges 1 places xs ys
   marks_named places xs ys = changes_named 1 (λ old. 1) (λ old. old.cut) places xs ys refl
 
-  pub told : (parts : List Part) (flows potentials : List (ℕ × ℤ)) (marks : List (ℕ × Bool)) (verdict : Verdict) (old_flow flow old_potentials new_potentials : List ℤ) (old_cut cut : List Bool) → ArePartsOf edits was_moment.instance parts → IfSome before (λ old. old_flow ≡ flow_of old) → flow ≡ flow_of m → IfSome before (λ old. old_potentials ≡ old.potentials) → new_potentials ≡ m.potentials → IfSome before (λ old. old_cut ≡ old.cut) → cut ≡ m.cut → IfSome before (λ old. verdict ≡ old.verdict) → AreFound flows old_flow flow (length old_flow) → AreFound potentials old_potentials new_potentials (length old_potentials) → AreFound marks old_cut cut (length old_cut) → let r : Recorded = record { parts = parts; flows = flows; potentials = potentials; marks = marks; verdict = verdict } in RecordFits r m × (before ≡ Some (with_record r m))
-  told parts flows potentials marks verdict old_flow flow old_potentials new_potentials old_cut cut are is_old_flow is_flow is_old_potentials is_potentials is_old_cut is_cut is_verdict flows_found potentials_found marks_found =
+  pub told : (parts : List Part) (flows potentials : List (ℕ × ℤ)) (marks : List (ℕ × Bool)) (verdict : Verdict) (old_flow flow old_potentials new_potentials : List ℤ) (old_cut cut : List Bool) → PartsLeadBack parts was_moment.instance m.instance → IfSome before (λ old. old_flow ≡ flow_of old) → flow ≡ flow_of m → IfSome before (λ old. old_potentials ≡ old.potentials) → new_potentials ≡ m.potentials → IfSome before (λ old. old_cut ≡ old.cut) → cut ≡ m.cut → IfSome before (λ old. verdict ≡ old.verdict) → AreFound flows old_flow flow (length old_flow) → AreFound potentials old_potentials new_potentials (length old_potentials) → AreFound marks old_cut cut (length old_cut) → let r : Recorded = record { parts = parts; flows = flows; potentials = potentials; marks = marks; verdict = verdict } in RecordFits r m × (before ≡ Some (with_record r m))
+  told parts flows potentials marks verdict old_flow flow old_potentials new_potentials old_cut cut back is_old_flow is_flow is_old_potentials is_potentials is_old_cut is_cut is_verdict flows_found potentials_found marks_found =
       let old_flow_is : old_flow ≡ flow_of was_moment = from_some (λ old. old_flow ≡ flow_of old) is_old_flow in
       let old_potentials_are : old_potentials ≡ was_moment.potentials = from_some (λ old. old_potentials ≡ old.potentials) is_old_potentials in
       let old_cut_is : old_cut ≡ was_moment.cut = from_some (λ old. old_cut ≡ old.cut) is_old_cut in
       let verdict_is : verdict ≡ was_moment.verdict = from_some (λ old. verdict ≡ old.verdict) is_verdict in
-      let made = is_record_of parts was_moment m flows potentials marks change.before change.after (back parts are)
+      let made = is_record_of parts was_moment m flows potentials marks was_answered answered back
       (rw (old_flow_is, is_flow) at flows_found) (rw (old_potentials_are, is_potentials) at potentials_found) (rw (old_cut_is, is_cut) at marks_found) in
       rw verdict_is (made.fits, is_some ∙ ap (λ (n : Moment). Some n) (sym made.leads))

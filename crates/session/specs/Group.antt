@@ -1,11 +1,13 @@
 -- The edits of a group: the places that they name, and the parts that lead back before them.
-use Rattle.std.specs.Prelude.{◌≡◌, ℕ, ◌+◌, ◌-◌, ◌<◌, ◌≤◌, ◌↔◌, pos, List, [], ◌∷◌, length, cond, nat_le, Option, Some, None, All, AllPairs, slice_index_or}
-use Rattle.std.specs.List.{Contains}
+use Rattle.std.specs.Prelude.{◌≡◌, ℕ, ◌+◌, ◌-◌, ◌<◌, ◌≤◌, ◌↔◌, pos, Bool, true, false, List, [], ◌∷◌, length, cond, nat_eq, nat_le, Some, All, AllPairs, Any, slice_index_or}
+use Rattle.std.specs.List.{Contains, find}
+use Rattle.std.proofs.Math.ListN.{replicate}
 use Rattle.dimacs_text.specs.declared.command.Edit.{Edit}
 use Rattle.dimacs_text.specs.declared.command.Edit.TheVariants as edits
 use Rattle.network.specs.Instance.{Instance}
 use Rattle.flow_solver.specs.TablesView.{supplies_in}
 use Rattle.flow_solver.specs.declared.part.Part.{Part}
+use Rattle.flow_solver.specs.declared.part.Part.TheVariants.{Arc, Supply, Last, Gone}
 use Rattle.session.specs.Parts.{listed, no_row}
 
 -- the nodes that the edits name, in their order
@@ -31,11 +33,6 @@ arcs_of n (edits.Cost arc cost ∷ es) = and_arc n arc (arcs_of n es)
 arcs_of n (edits.Supply node value ∷ es) = arcs_of n es
 arcs_of n (edits.Add tail head low cap cost ∷ es) = arcs_of n es
 arcs_of n (edits.Close arc ∷ es) = and_arc n arc (arcs_of n es)
-
--- the number before the others, where there is one
-abbrev pub and_some : Option ℕ → List ℕ → List ℕ
-and_some None ks = ks
-and_some (Some k) ks = k ∷ ks
 
 -- how many arcs they add
 abbrev pub arcs_added : List Edit → ℕ
@@ -69,3 +66,35 @@ pub record ArePartsOf (edits : List Edit) (old : Instance) (ps : List Part) : Ty
 -- the numbers are places of a list of n values
 abbrev pub ArePlaces : ℕ → List ℕ → Type 0
 ArePlaces n ks = All (λ k. (1 ≤ k) × (k ≤ n)) ks
+
+-- ---- the parts that were logged of a change
+
+-- whether the part is at a node, or at one of the first n arcs
+abbrev pub is_there : ℕ → Part → Bool
+is_there n (Arc k row) = nat_le k n
+is_there n (Supply id value) = true
+is_there n Last = false
+is_there n (Gone row flow) = false
+
+-- how many arcs were added
+abbrev pub new_arcs : List Part → ℕ
+new_arcs [] = 0
+new_arcs (Last ∷ ps) = new_arcs ps + 1
+new_arcs (p ∷ ps) = new_arcs ps
+
+-- the parts of these
+abbrev pub last_parts : List Part → List Part
+last_parts ps = replicate (new_arcs ps) Last
+
+-- where its place comes in a record: all nodes come before the arcs
+abbrev pub rank : ℕ → Part → ℕ
+rank nodes (Arc k row) = nodes + k
+rank nodes (Supply id value) = id
+rank nodes Last = 0
+rank nodes (Gone row flow) = 0
+
+-- the first value of each rank, by their ranks
+pub record AreFirst {X : Type 0} (rank : X → ℕ) (all firsts : List X) : Type 0 where
+  pub rising : AllPairs (λ x y. rank x < rank y) firsts
+  pub first : All (λ x. find (λ y. nat_eq (rank y) (rank x)) all ≡ Some x) firsts
+  pub each : (x : X) → Contains all x → Any (λ y. rank y ≡ rank x) firsts

@@ -110,6 +110,13 @@ pub record PartsFit (ps : List Part) (I : Instance) : Type 0 where
   pub normal : ps ≡ listed (named ps)
   pub fit : NamedFit (named ps) I
 
+-- the parts lead from the instance J back to I, which has no arc that J has not
+pub record PartsLeadBack (ps : List Part) (I J : Instance) : Type 0 where
+  pub fits : PartsFit ps J
+  pub back : instance_swapped (named ps) J ≡ I
+  pub shared_arcs : length J.arcs - (named ps).go ≡ length I.arcs
+  pub no_flows : (named ps).come_flows ≡ []
+
 -- ---- one part after the other
 
 -- the moment once one part is exchanged; arcs that go are still there

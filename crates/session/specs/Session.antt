@@ -1,24 +1,22 @@
 -- A session as whole moments, and what lies between each moment and the next.
-use Rattle.std.specs.Prelude.{◌≡◌, ℕ, ◌+◌, ◌-◌, ◌≤◌, ℤ, pos, List, [], ◌∷◌, ◌++◌, length, map, take, All, Ok, IfSome, slice_index_or}
+use Rattle.std.specs.Prelude.{◌≡◌, ℕ, ◌+◌, ◌-◌, ◌≤◌, List, [], ◌∷◌, ◌++◌, length, map, take, All, Ok, IfSome, slice_index_or}
 use Rattle.std.specs.Option.{unwrap_or}
 use Rattle.dimacs_text.specs.declared.command.Edit.{Edit}
-use Rattle.dimacs_text.specs.declared.command.Edit.TheVariants as edits
-use Rattle.dimacs_text.specs.declared.problem.ArcRow.{ArcRow}
 use Rattle.dimacs_text.specs.declared.problem.Kind.{Kind}
 use Rattle.network.specs.Edited.{edited, edited_all}
 use Rattle.network.specs.Instance.{Instance, at_node, kind_of}
 use Rattle.flow_solver.specs.Moment.{Moment}
 use Rattle.flow_solver.specs.Answer.{IsAnswered}
 use Rattle.flow_solver.specs.Edit.{AreChanges, ChangeAllTo, ChangesTo, IsChange}
-use Rattle.flow_solver.specs.TablesView.{TablesView, supplies_in}
+use Rattle.flow_solver.specs.Part.{place_of_edit, place_of_part, AreLogged, InstancePlace}
+use Rattle.flow_solver.specs.TablesView.{TablesView}
 use Rattle.history.specs.Boards.{Changes, all_changes, Timeline, all_boards, boards, StandsFor}
 use Rattle.session.specs.declared.marks.Mark.{Mark}
 use Rattle.flow_solver.specs.declared.part.Part.{Part}
-use Rattle.flow_solver.specs.declared.part.Part.TheVariants.{Arc, Supply, Last, Gone}
-use Rattle.session.specs.Group.{ArePartsOf, valued}
+use Rattle.session.specs.Group.{ArePartsOf}
 use Rattle.session.specs.Marks.{AreMarks, AreOn, IsMovedTo, marked, with_mark}
 use Rattle.session.specs.Places.{IsRising, AreWithin, IsDifference, end_of}
-use Rattle.session.specs.Parts.{named, listed, flow_of, instance_swapped, no_row, supply_parts, arc_parts, IsOneEnd}
+use Rattle.session.specs.Parts.{named, listed, flow_of, instance_swapped, IsOneEnd, PartsLeadBack}
 use Rattle.session.specs.Record.{Recorded, RecordFits, Differs, with_record}
 
 -- the moments in the order of time, the record between each moment and the next, and the marks of moments
@@ -57,31 +55,20 @@ pub record AreEdited (edits : List Edit) (old new : Moment) : Type 0 where
   pub pushes : ℕ
   pub led : ChangeAllTo edits old new pushes
 
--- accepted edits lead from one answered moment to the other
-pub record AreAcceptedEdits (edits : List Edit) (old new : Moment) : Type 0 where
-  pub before : IsAnswered old
-  pub accepted : edited_all old.instance edits ≡ Ok new.instance
-  pub after : IsAnswered new
-
--- the moment before the last change of the tables, where there was one, and its instance with supplies and arcs
+-- the moment before the last change of the tables, where there was one, and its instance
 abbrev pub old_moment : TablesView → Moment
 old_moment shown = unwrap_or shown.before shown.moment
 
 abbrev pub old_instance : TablesView → Instance
 old_instance shown = (old_moment shown).instance
 
-abbrev pub old_supplies : TablesView → List ℤ
-old_supplies shown = supplies_in (old_instance shown).demand
+-- the parts are those of the edits that were logged of it
+abbrev pub ArePartsLogged : TablesView → List Part → Type 0
+ArePartsLogged shown ps = (edits : List Edit) → AreLogged edits shown.kept.log → ArePartsOf edits (old_instance shown) ps
 
-abbrev pub old_arcs : TablesView → List ArcRow
-old_arcs shown = (old_instance shown).arcs
-
--- the parts that bring back what these nodes and arcs were then
-abbrev pub nodes_back : List ℕ → TablesView → List Part
-nodes_back nodes shown = supply_parts (valued nodes (old_supplies shown) (pos 0))
-
-abbrev pub arcs_back : List ℕ → TablesView → List Part
-arcs_back arcs shown = arc_parts (valued arcs (old_arcs shown) no_row)
+-- they lead back before it
+abbrev pub LeadBefore : TablesView → List Part → Type 0
+LeadBefore shown ps = PartsLeadBack ps (old_instance shown) shown.moment.instance
 
 -- the parts, in their normal form, name places with what the other moment has there: nodes and arcs once and rising, then
 -- arcs that only the other moment has, with their flows, or how many arcs only this one has. Outside these places the
@@ -127,29 +114,9 @@ pub record IsSessionAt (h : Changes Recorded) (m : Moment) (marks : List Mark) :
 abbrev pub stack_of : Changes Recorded → Moment → List Mark → Stack
 stack_of h m marks = record { moments = boards with_record h m; records = all_changes h; marks = marks }
 
--- a place of an instance that a step changes
-pub data InstancePlace : Type 0 where
-  OfArc : ℕ → InstancePlace
-  OfNode : ℕ → InstancePlace
-  OfNewArc : InstancePlace
-
-abbrev pub place_of_part : Part → InstancePlace
-place_of_part (Arc k row) = OfArc k
-place_of_part (Supply id value) = OfNode id
-place_of_part Last = OfNewArc
-place_of_part (Gone row flow) = OfNewArc
-
 -- the places of a record's parts
 abbrev pub places_of : Recorded → List InstancePlace
 places_of r = map place_of_part r.parts
-
-abbrev pub place_of_edit : Edit → InstancePlace
-place_of_edit (edits.Cap arc cap) = OfArc arc
-place_of_edit (edits.Low arc low) = OfArc arc
-place_of_edit (edits.Cost arc cost) = OfArc arc
-place_of_edit (edits.Supply node value) = OfNode node
-place_of_edit (edits.Add tail head low cap cost) = OfNewArc
-place_of_edit (edits.Close arc) = OfArc arc
 
 -- ---- what a call does to moments, records and marks
 

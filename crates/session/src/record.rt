@@ -1,20 +1,18 @@
 //! What a step changes, kept so that it can be undone and done again.
 
 ghost use Rattle.std.specs.Prelude.{◌≡◌, IsSome, IfOk, Some};
+ghost use Rattle.flow_solver.specs.Answer.{IsAnswered};
 ghost use Rattle.flow_solver.specs.Part.{return_count};
-ghost use Rattle.session.specs.Group.{ArePartsOf};
 ghost use Rattle.session.specs.Record.{RecordFits, Differs, with_record};
-ghost use Rattle.session.specs.Session.{AreAcceptedEdits, old_instance, old_moment};
+ghost use Rattle.session.specs.Session.{old_moment, ArePartsLogged};
 
 mod building;
 
 use crate::differences::differences;
 use crate::swaps::{swap_flows, swap_marks, swap_parts, swap_potentials};
 use building::parts_before;
-use dimacs_text::Edit;
 use flow_solver::{Part, Tables, Verdict};
 use history::Change;
-use network::edits_keep_lawful;
 use std::alloc::{AllocError, Allocator, Global};
 use std::marker::Model;
 
@@ -43,24 +41,20 @@ impl<A: Allocator> Model for Record<A> {
 }
 
 impl<A: Allocator + Copy> Record<A> {
-    /// What the last change of the tables changed, which was that of the edits.
+    /// What the last change of the tables changed.
     ///
     /// # Errors
     /// Memory for a list was refused.
-    pub(crate) fn of_last_change(
-        alloc: A,
-        edits: &[Edit],
-        tables: &Tables,
-    ) -> Result<Self, AllocError>
+    pub(crate) fn of_last_change(alloc: A, tables: &Tables) -> Result<Self, AllocError>
         requires before { IsSome tables.now.before }
-        requires change { AreAcceptedEdits edits.now (old_moment tables.now) tables.now.moment }
-        ensures parts { IfOk result (λ r. ArePartsOf edits.now (old_instance tables.now) r.parts) }
+        requires was_answered { IsAnswered (old_moment tables.now) }
+        requires answered { IsAnswered tables.now.moment }
+        ensures parts { IfOk result (λ r. ArePartsLogged tables.now r.parts) }
         ensures fits { IfOk result (λ r. RecordFits r tables.now.moment) }
         ensures leads { IfOk result (λ r. tables.now.before ≡ Some (with_record r tables.now.moment)) }
         ensures exact { IfOk result (λ r. Differs r tables.now.moment) }
     {
-        edits_keep_lawful();
-        let parts = parts_before(alloc, edits, tables)?;
+        let parts = parts_before(alloc, tables)?;
         let flows = differences(
             alloc,
             tables.touched_flow(),

@@ -137,7 +137,7 @@ impl<A: Allocator + Copy> Session<A> {
         network.edited_all(edits).map_err(Refusal::Cause)?;
         self.history.reserve_one()?;
         let pushes = self.tables.change_all(edits);
-        match Record::of_last_change(self.alloc, edits, &self.tables) {
+        match Record::of_last_change(self.alloc, &self.tables) {
             Ok(record) => {
                 self.marks.keep_up_to(past);
                 self.history.push(record);

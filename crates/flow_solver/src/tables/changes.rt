@@ -8,7 +8,7 @@ ghost use Rattle.network.specs.Instance.{at_node, reduced};
 ghost use Rattle.flow_solver.specs.Answer.{IsAnswered};
 ghost use Rattle.flow_solver.specs.Edit.{CanMake, ChangeAllTo, ChangesTo, HasPotentials, IsCertifiedMoment, IsMadeIn, IsNearestBy, IsOfAdd, IsOfArc, IsOfSupply, KeepsResidualArcs, KeepsResidualArcsAt, MakeAll, PushesTo, arc_flow, arc_reduced, arc_row, left_in};
 ghost use Rattle.flow_solver.specs.Moment.{IsWellFormed, brought_back, kept_of};
-ghost use Rattle.flow_solver.specs.Part.{before_all, before_part, CanTakeBack, CanTakeBackAll, IsLogged, LeadsBack};
+ghost use Rattle.flow_solver.specs.Part.{before_all, before_part, AreLogged, CanTakeBack, CanTakeBackAll, IsLogged, LeadsBack};
 
 use super::Tables;
 use crate::answer::judge;
@@ -75,6 +75,7 @@ impl Tables {
             ≡ Ok self.new.moment.instance }
         ensures answered { IsAnswered self.new.moment }
         ensures changed { ChangeAllTo edits.now self.old.moment self.new.moment result }
+        ensures logged { AreLogged edits.now self.new.kept.log }
         ensures before { self.new.before ≡ Some self.old.moment }
     {
         let verdict = self.verdict;
@@ -335,6 +336,7 @@ fn make_all(tables: &mut Tables, edits: &[Edit])
     ensures certified { IsCertifiedMoment tables.new.moment }
     ensures back { LeadsBack tables.new.kept.log
         tables.old.moment.instance tables.new.moment.instance }
+    ensures logged { AreLogged edits.now tables.new.kept.log }
     ensures kept { tables.new.kept ≡ record tables.old.kept { log = tables.new.kept.log } }
 {
     for edit in edits {

@@ -15,12 +15,15 @@ use Rattle.flow_solver.proofs.tables.Tables.change_all.Goals.{After-self-1}
 made : (c : After-self-1) → AreMade c.args.self.now.moment.instance c.args.edits.now (at_node c.args.self.now.moment.potentials) c.args.self.now.moment.flow c.settle-pushes.new.self.moment.instance c.make_all.new.tables.moment.flow
 made c = rw c.settle-pushes.ensures.instance (rw c.snapshot.ensures.moment at c.make_all.ensures.made)
 
+-- what is logged is so still
+log_is : (c : After-self-1) → c.self-2.inside.before.log.items ≡ c.make_all.new.tables.kept.log
+log_is c = ap (λ (d : TablesView). d.kept.log) c.self-2.view_is ∙ ap (λ (k : Snapshot). k.log) c.settle-pushes.ensures.kept
+
 -- what is logged leads back
 back : (c : After-self-1) → LeadsBack c.self-2.inside.before.log.items c.args.self.now.moment.instance c.self-2.inside.graph.net
 back c =
-    let log = ap (λ (d : TablesView). d.kept.log) c.self-2.view_is ∙ ap (λ (k : Snapshot). k.log) c.settle-pushes.ensures.kept in
     let here = ap (λ (d : TablesView). d.moment.instance) c.self-2.view_is ∙ c.settle-pushes.ensures.instance in
-    rw (log, here) (rw c.snapshot.ensures.moment at c.make_all.ensures.back)
+    rw (log_is c, here) (rw c.snapshot.ensures.moment at c.make_all.ensures.back)
 
 -- what was kept is kept still
 kept_is : (c : After-self-1) → kept_by c.self-2.inside.flow c.self-2.inside.potentials.table c.self-2.inside.cut c.self-2.inside.before.log.items ≡ record (kept_of c.args.self.now.moment) { log = c.self-2.inside.before.log.items }
@@ -70,3 +73,6 @@ returns-clause-changed c =
     let changes : AreChanges m.instance end.instance edits (at_node m.potentials) m.flow end.flow c.settle-pushes.result =
     record { start = start; made = made c; pushes = rw same c.settle-pushes.ensures.pushes; count = omega (arith, ints, left, grown) } in
     subst (λ (d : TablesView). AreChanges m.instance d.moment.instance edits (at_node m.potentials) m.flow d.moment.flow c.settle-pushes.result) (sym c.self-2.view_is) changes
+
+pub returns-clause-logged : goal.returns-clause-logged
+returns-clause-logged c = rw (log_is c) c.make_all.ensures.logged

@@ -6,7 +6,7 @@ pub loop-edit-init : goal.loop-edit-init
 loop-edit-init c = making_start c.args.edits.now c.args.tables.now c.requires.fresh c.requires.certified c.requires.accepted
 
 pub log_edit-requires-clause-room : goal.log_edit-requires-clause-room
-log_edit-requires-clause-room c = omega (arith, c.requires.few, c.loop-edit.invariant.logged)
+log_edit-requires-clause-room c = omega (arith, c.requires.few, c.loop-edit.invariant.count)
 
 pub log_edit-requires-clause-accepted : goal.log_edit-requires-clause-accepted
 log_edit-requires-clause-accepted c = (making_fits c.loop-edit.edit-index c.args.edits.now c.args.tables.now c.loop-edit.tables _ (omega arith) c.loop-edit.invariant).accepted

@@ -4,45 +4,45 @@ use Rattle.session.proofs.record.Record.of_last_change.Goals as goal
 pub differences-requires-clause-fewer : goal.differences-requires-clause-fewer
 differences-requires-clause-fewer g c =
     let shown = c.args.tables.now in
-    fewer_flows c.edits_keep_lawful.ensures shown.before shown.moment c.args.edits.now c.requires.before c.requires.change c.in_ok-parts.parts.items c.in_ok-parts.ensures c.old_flow.result.now c.flow.result.now c.old_flow.ensures c.flow.ensures.value
+    fewer_flows shown.before shown.moment c.requires.before c.requires.was_answered c.requires.answered c.in_ok-parts.parts.items c.in_ok-parts.ensures.back c.old_flow.result.now c.flow.result.now c.old_flow.ensures c.flow.ensures.value
 
 pub differences-requires-clause-named : goal.differences-requires-clause-named
 differences-requires-clause-named g c =
     let shown = c.args.tables.now in
-    flows_named c.edits_keep_lawful.ensures shown.before shown.moment c.args.edits.now c.requires.before c.requires.change c.in_ok-parts.parts.items c.in_ok-parts.ensures c.index_of_first_arc.result c.touched_flow.result.now c.old_flow.result.now c.flow.result.now c.index_of_first_arc.ensures c.touched_flow.ensures.named c.old_flow.ensures c.flow.ensures.value
+    flows_named shown.before shown.moment c.requires.before c.requires.was_answered c.requires.answered c.in_ok-parts.parts.items c.in_ok-parts.ensures.back c.index_of_first_arc.result c.touched_flow.result.now c.old_flow.result.now c.flow.result.now c.index_of_first_arc.ensures c.touched_flow.ensures.named c.old_flow.ensures c.flow.ensures.value
 
 pub differences-requires-2-clause-fewer : goal.differences-requires-2-clause-fewer
 differences-requires-2-clause-fewer g c =
     let shown = c.args.tables.now in
-    same_potentials c.edits_keep_lawful.ensures shown.before shown.moment c.args.edits.now c.requires.before c.requires.change c.in_ok-parts.parts.items c.in_ok-parts.ensures c.old_potentials.result.now c.potentials.result.now c.old_potentials.ensures c.potentials.ensures.value
+    same_potentials shown.before shown.moment c.requires.before c.requires.was_answered c.requires.answered c.in_ok-parts.parts.items c.in_ok-parts.ensures.back c.old_potentials.result.now c.potentials.result.now c.old_potentials.ensures c.potentials.ensures.value
 
 pub differences-requires-2-clause-named : goal.differences-requires-2-clause-named
 differences-requires-2-clause-named g c =
     let shown = c.args.tables.now in
-    potentials_named c.edits_keep_lawful.ensures shown.before shown.moment c.args.edits.now c.requires.before c.requires.change c.touched_potentials.result.now c.old_potentials.result.now c.potentials.result.now c.touched_potentials.ensures.named c.old_potentials.ensures c.potentials.ensures.value
+    potentials_named shown.before shown.moment c.requires.before c.requires.was_answered c.requires.answered c.touched_potentials.result.now c.old_potentials.result.now c.potentials.result.now c.touched_potentials.ensures.named c.old_potentials.ensures c.potentials.ensures.value
 
 pub differences-requires-3-clause-fewer : goal.differences-requires-3-clause-fewer
 differences-requires-3-clause-fewer g c =
     let shown = c.args.tables.now in
-    same_marks c.edits_keep_lawful.ensures shown.before shown.moment c.args.edits.now c.requires.before c.requires.change c.in_ok-parts.parts.items c.in_ok-parts.ensures c.old_cut.result.now c.cut.result.now c.old_cut.ensures c.cut.ensures.value
+    same_marks shown.before shown.moment c.requires.before c.requires.was_answered c.requires.answered c.in_ok-parts.parts.items c.in_ok-parts.ensures.back c.old_cut.result.now c.cut.result.now c.old_cut.ensures c.cut.ensures.value
 
 pub differences-requires-3-clause-named : goal.differences-requires-3-clause-named
 differences-requires-3-clause-named g c =
     let shown = c.args.tables.now in
-    marks_named c.edits_keep_lawful.ensures shown.before shown.moment c.args.edits.now c.requires.before c.requires.change c.touched_cut.result.now c.old_cut.result.now c.cut.result.now c.touched_cut.ensures.named c.old_cut.ensures c.cut.ensures.value
+    marks_named shown.before shown.moment c.requires.before c.requires.was_answered c.requires.answered c.touched_cut.result.now c.old_cut.result.now c.cut.result.now c.touched_cut.ensures.named c.old_cut.ensures c.cut.ensures.value
 
 pub returns-clause-fits : goal.returns-clause-fits
 returns-clause-fits g c =
     let shown = c.args.tables.now in
-    (told c.edits_keep_lawful.ensures shown.before shown.moment c.args.edits.now c.requires.before c.requires.change c.in_ok-parts.parts.items c.in_ok-flows.flows.items c.in_ok-potentials.potentials.items c.in_ok-marks.marks.items c.old_verdict.result
+    (told shown.before shown.moment c.requires.before c.requires.was_answered c.requires.answered c.in_ok-parts.parts.items c.in_ok-flows.flows.items c.in_ok-potentials.potentials.items c.in_ok-marks.marks.items c.old_verdict.result
     c.old_flow.result.now c.flow.result.now c.old_potentials.result.now c.potentials.result.now c.old_cut.result.now c.cut.result.now
-    c.in_ok-parts.ensures c.old_flow.ensures c.flow.ensures.value c.old_potentials.ensures c.potentials.ensures.value c.old_cut.ensures c.cut.ensures.value c.old_verdict.ensures
+    c.in_ok-parts.ensures.back c.old_flow.ensures c.flow.ensures.value c.old_potentials.ensures c.potentials.ensures.value c.old_cut.ensures c.cut.ensures.value c.old_verdict.ensures
     c.in_ok-flows.ensures c.in_ok-potentials.ensures c.in_ok-marks.ensures).0
 
 pub returns-clause-leads : goal.returns-clause-leads
 returns-clause-leads g c =
     let shown = c.args.tables.now in
-    (told c.edits_keep_lawful.ensures shown.before shown.moment c.args.edits.now c.requires.before c.requires.change c.in_ok-parts.parts.items c.in_ok-flows.flows.items c.in_ok-potentials.potentials.items c.in_ok-marks.marks.items c.old_verdict.result
+    (told shown.before shown.moment c.requires.before c.requires.was_answered c.requires.answered c.in_ok-parts.parts.items c.in_ok-flows.flows.items c.in_ok-potentials.potentials.items c.in_ok-marks.marks.items c.old_verdict.result
     c.old_flow.result.now c.flow.result.now c.old_potentials.result.now c.potentials.result.now c.old_cut.result.now c.cut.result.now
-    c.in_ok-parts.ensures c.old_flow.ensures c.flow.ensures.value c.old_potentials.ensures c.potentials.ensures.value c.old_cut.ensures c.cut.ensures.value c.old_verdict.ensures
+    c.in_ok-parts.ensures.back c.old_flow.ensures c.flow.ensures.value c.old_potentials.ensures c.potentials.ensures.value c.old_cut.ensures c.cut.ensures.value c.old_verdict.ensures
     c.in_ok-flows.ensures c.in_ok-potentials.ensures c.in_ok-marks.ensures).1

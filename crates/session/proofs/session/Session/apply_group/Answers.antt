@@ -7,7 +7,7 @@ use Rattle.flow_solver.specs.Moment.{Moment}
 use Rattle.session.specs.Record.{Recorded, with_record}
 use Rattle.session.specs.Session.{Stack}
 use Rattle.session.proofs.Apart.{kept_few}
-use Rattle.session.proofs.Applying.{changes_are, was_there, led}
+use Rattle.session.proofs.Applying.{was_there, led}
 use Rattle.session.proofs.Keeping.{kept_push, kept_same, present_answered}
 use Rattle.session.proofs.Marking.{on_new}
 use Rattle.session.proofs.session.Session.apply_group.Goals as goal
@@ -15,10 +15,9 @@ use Rattle.session.proofs.session.Session.apply_group.Goals as goal
 pub change_all-pushes-requires-clause-certified : goal.change_all-pushes-requires-clause-certified
 change_all-pushes-requires-clause-certified g c = (present_answered c.self.inside.history c.self.inside.tables.moment c.self.invariant.kept).certified
 
-pub of_last_change-requires-clause-change : goal.of_last_change-requires-clause-change
-of_last_change-requires-clause-change g c =
-    let did = c.change_all-pushes.ensures in
-    changes_are c.change_all-pushes.new.self c.self.inside.tables.moment c.args.edits.now did.before (present_answered c.self.inside.history c.self.inside.tables.moment c.self.invariant.kept) did.instance did.answered
+pub of_last_change-requires-clause-was_answered : goal.of_last_change-requires-clause-was_answered
+of_last_change-requires-clause-was_answered g c =
+    rw (was_there c.change_all-pushes.new.self c.self.inside.tables.moment c.change_all-pushes.ensures.before) (present_answered c.self.inside.history c.self.inside.tables.moment c.self.invariant.kept)
 
 -- the new moment and its record are kept
 pub invariant_of-self-in-Ok : goal.invariant_of-self-in-Ok
@@ -52,7 +51,9 @@ returns-in-Ok-clause-records g c =
     let past = c.push.ensures.past ∙ ap (λ (rs : List Recorded). rs ++ r ∷ []) c.reserve_one.ensures.past in
     let all = ap₂ ◌++◌ past c.push.ensures.future ∙ append-nil (h.past ++ r ∷ []) in
     let kept = take_at h.past h.future (length (boards with_record h c.self.inside.tables.moment).past) (sym (length-past with_record h c.self.inside.tables.moment)) in
-    rw (← c.self.view_is) (r, all ∙ sym (ap (λ (rs : List Recorded). rs ++ r ∷ []) kept), rw (was_there c.change_all-pushes.new.self c.self.inside.tables.moment c.change_all-pushes.ensures.before) at c.in-Ok.ensures.parts)
+    let did = c.change_all-pushes.ensures in
+    let parts = rw (was_there c.change_all-pushes.new.self c.self.inside.tables.moment did.before) at (c.in-Ok.ensures.parts c.args.edits.now did.logged) in
+    rw (← c.self.view_is) (r, all ∙ sym (ap (λ (rs : List Recorded). rs ++ r ∷ []) kept), parts)
 
 -- edits keep the kind
 pub returns-in-Ok-clause-kind : goal.returns-in-Ok-clause-kind
