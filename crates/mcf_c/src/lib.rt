@@ -3,7 +3,7 @@
 //! Each call of a session takes it out of its handle, does its work on it by a function of `c_calls`, and puts it back.
 #![tactic(auto)]
 
-ghost use Rattle.std.specs.Prelude.{◌≡◌, ◌≢◌, List, Option, None, pos, length};
+ghost use Rattle.std.specs.Prelude.{◌≡◌, ◌≢◌, ◌↔◌, List, Option, None, pos, length};
 ghost use Rattle.dimacs_text.specs.declared.command.Command.TheVariants as commands;
 ghost use Rattle.network.specs.Instance.{IsBest};
 ghost use Rattle.session.specs.Parts.{flow_of};
@@ -63,7 +63,7 @@ pub extern "C" fn mcf_open(
     ensures open { result ≡ pos 0 → state_behind handle.new ≢ None }
     ensures no_group { result ≡ pos 0 → group_behind handle.new ≡ None }
     ensures fault { result ≡ FAULT → IsFaultOf text.now fault.new }
-    ensures in_use { result ≡ OPEN → state_behind handle.old ≢ None }
+    ensures in_use { (result ≡ OPEN) ↔ (state_behind handle.old ≢ None) }
     ensures otherwise { result ≢ pos 0 → result ≢ FAULT → result ≢ OPEN → result ≡ MEMORY }
     ensures no_fault { result ≢ FAULT → fault.new ≡ fault.old }
     ensures refused { result ≢ pos 0 → state_behind handle.new ≡ state_behind handle.old }
@@ -110,7 +110,7 @@ pub extern "C" fn mcf_open_arrays(
     ensures no_group { result ≡ pos 0 → group_behind handle.new ≡ None }
     ensures lengths { result ≡ OTHER_LENGTH → IsEven arrays.now → ⊥ }
     ensures fault { result ≡ FAULT → IsEven arrays.now × IsFirstFault arrays.now fault.new }
-    ensures in_use { result ≡ OPEN → state_behind handle.old ≢ None }
+    ensures in_use { (result ≡ OPEN) ↔ (state_behind handle.old ≢ None) }
     ensures otherwise { result ≢ pos 0 → result ≢ OTHER_LENGTH → result ≢ FAULT → result ≢ OPEN
         → result ≡ MEMORY }
     ensures no_fault { result ≢ FAULT → fault.new ≡ fault.old }
