@@ -84,7 +84,7 @@ impl Search {
         let _begin = self.leave::<AHEAD>(proposal, u, Leaving::All);
     }
 
-    fn settled_at(&self, k: usize) -> Option<usize>
+    pub(crate) fn settled_at(&self, k: usize) -> Option<usize>
         ensures { IfSome result (λ v. v < self.now) }
     {
         self.settled.at(k)

@@ -105,12 +105,20 @@ impl Records {
         record.state = State::Open;
     }
 
+    /// Lets only paths to a node be written down that reach less far.
+    #[inline(always)]
+    pub fn limit(&mut self, v: usize, reach: i64)
+        requires { v < self.old }
+        ensures { self.new ≡ self.old }
+    {
+        self.reaches[v] = reach;
+    }
+
     /// Forgets the path to a node.
     pub fn forget(&mut self, v: usize)
         requires { v < self.old }
         ensures { self.new ≡ self.old }
     {
-        self.reaches[v] = FAR;
         self.table[v].state = State::New;
     }
 
