@@ -182,6 +182,15 @@ def clause(function, name):
     return " ".join(text for each in texts for text in each)
 
 
+def over_devices(name):
+    """What a clause over devices says of what they gave and took: the head of its definition, `..OnDevices`, or the name."""
+    for specs in sorted(TOP.glob("crates/engines/specs/*.antt")) + sorted(TOP.glob("crates/checker/specs/*.antt")):
+        head = re.search(rf"(?m)^{name} [^:\n]*=\n\s+(\w+OnDevices)\b", specs.read_text())
+        if head:
+            return head.group(1)
+    return name
+
+
 def wrong_statement(text):
     """How the statement of CLAIM and that of the prover differ: fields of engines/specs/Claim.antt that no words of the
     page say, or that are gone; a premise of `the_claim` that is no clause of those that the page names, or the reverse;
@@ -199,7 +208,7 @@ def wrong_statement(text):
     drawn = re.search(r"The law `the_claim` draws it from the clauses? (.*?);", page)
     cited = re.findall(r"((?:`\w+`(?: and )?)+) of `(\w+)`", drawn.group(1) if drawn else "")
     clauses = [clause(function, name) for names, function in cited for name in re.findall(NAME, names)]
-    heads = {text.split()[0] for text in clauses if text.strip()}
+    heads = {over_devices(text.split()[0]) for text in clauses if text.strip()}
     premises = set(re.findall(r"→ ([A-Z]\w+)", law)) - {"Written"}
     concluded = set(re.findall(r"→ Written \((\w+)", law)) | set(re.findall(r"ensures \w+ \{ (\w+) \}", law))
     count += len(heads) + len(premises) + len(concluded)
