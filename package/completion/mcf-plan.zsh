@@ -17,9 +17,9 @@ _mcf-plan() {
     local -a help=('(- *)'{-h,--help}'[print help]')
     local -a tables=(
         $help
-        '--kind[least cost, greatest flow or assignment]:kind:(min max asn)'
-        '--source[where a greatest flow starts]:node:'
-        '--sink[where a greatest flow ends]:node:'
+        '--kind[least cost, maximum flow or assignment]:kind:(min max asn)'
+        '--source[where a maximum flow starts]:node:'
+        '--sink[where a maximum flow ends]:node:'
         '--surplus[what becomes of supplies that do not add up to 0]:surplus:(refuse keep)'
         '--balance[how supplies are meant]:balance:(equal at\ least at\ most)'
         '*--columns[what a column is by its name]:thing=name:'

@@ -11,7 +11,7 @@ from mcf_plan.cuts import minimum_cut
 
 
 def drawn(draws: random.Random) -> Problem:
-    """A problem of a greatest flow; some have lower bounds, halves, arcs without limit, or no plan."""
+    """A problem of a maximum flow; some have lower bounds, halves, arcs without limit, or no plan."""
     nodes = [f"n{number}" for number in range(draws.randint(2, 6))]
     problem = Problem("max", source=nodes[0], sink=nodes[-1])
     for name in nodes:
@@ -31,7 +31,7 @@ class Cuts(unittest.TestCase):
             try:
                 plan = problem.solve()
             except Unbounded:
-                continue  # no greatest flow
+                continue  # no maximum flow
             if not isinstance(plan, Plan):
                 continue
             cut = minimum_cut(plan)

@@ -202,9 +202,9 @@ def _add_tables(parser: argparse.ArgumentParser) -> None:
         "--kind",
         choices=["min", "max", "asn"],
         default="min",
-        help="least cost (min), greatest flow (max) or assignment (asn)",
+        help="least cost (min), maximum flow (max) or assignment (asn)",
     )
-    parser.add_argument("--source", metavar="NODE", help="where a greatest flow starts")
+    parser.add_argument("--source", metavar="NODE", help="where a maximum flow starts")
     parser.add_argument("--sink", metavar="NODE", help="where it ends")
     parser.add_argument(
         "--surplus",
@@ -351,7 +351,7 @@ def _read_source(options: argparse.Namespace) -> Problem:
         return problem if options.round is None else round_problem(problem, options.round)
     for what, name in (("--source", options.source), ("--sink", options.sink)):
         if options.kind == "max" and name is None:
-            raise TableFault(f"a greatest flow wants {what} NODE")
+            raise TableFault(f"a maximum flow wants {what} NODE")
     columns: Dict[str, List[str]] = {}
     for what, name in (pair for pairs in options.columns for pair in pairs):
         columns.setdefault(what, []).append(name)

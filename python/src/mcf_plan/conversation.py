@@ -298,7 +298,7 @@ class Conversation:
         self.say(result.explain() if isinstance(result, Infeasible) else "there is a plan")
 
     def saves(self) -> None:
-        """Prints what one unit more saves, or adds to a greatest flow, arc by arc."""
+        """Prints what one unit more saves, or adds to a maximum flow, arc by arc."""
         from .sensitivity import one_unit_more
 
         does = "adds" if self.session.problem.kind == "max" else "saves"

@@ -146,7 +146,7 @@ def total_of(numbers: Iterable[Decimal]) -> Decimal:
 class Problem:
     """A problem in the words of its tables. It grows by `add_node` and `add_arc`, and answers by `solve`.
 
-    `kind` is 'min' (least cost), 'max' (greatest flow from `source` to `sink`) or 'asn' (assignment: each node with
+    `kind` is 'min' (least cost), 'max' (maximum flow from `source` to `sink`) or 'asn' (assignment: each node with
     supply 1 is on the source side, each with -1 on the sink side).
     `balance` (of `min`) says what a node's supply means: what leaves it less what comes in is 'equal' to it, 'at least'
     or 'at most' it.

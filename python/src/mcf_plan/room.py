@@ -163,7 +163,7 @@ def _unbounded(figures: Figures, circle: List[int]) -> Unbounded:
     own = [k for k in circle if k < len(arcs)]
     path = ", ".join(arcs[k].label for k in own)
     if figures.problem.kind == "max":
-        return Unbounded(f"there is no greatest flow: no arc of the path {path} has a capacity", own)
+        return Unbounded(f"there is no maximum flow: no arc of the path {path} has a capacity", own)
     saved = -total_of(arcs[k].cost for k in own)
     return Unbounded(
         f"there is no cheapest plan: around the circle {path} no arc has a capacity, and each unit more "
