@@ -3,8 +3,8 @@
 ghost use Rattle.std.specs.Prelude.{◌≡◌, ◌≤◌, IfOk};
 
 use dimacs_io::{
-    Broken, Pad, ReadSource, Script, Sink, Source, WriteSink, write_all, write_f, write_i, write_k,
-    write_r, write_s, write_v,
+    Broken, Logged, Pad, ReadSource, Script, Sink, Source, WriteSink, write_all, write_f, write_i,
+    write_k, write_r, write_s, write_v,
 };
 use std::io;
 use std::io::{ErrorKind, Read, Write};
@@ -88,14 +88,21 @@ fn expect_calls(rt: &impl Abort, device: &Device, moves: u64, flushes: u64) {
     assert_eq!(rt; (device.moves, device.flushes), (moves, flushes));
 }
 
+/// A sink over both wrappers of a device: the one that logs what it takes, as in the program, and the one that counts.
+fn sink_of<'a>(device: &'a mut Device) -> WriteSink<Logged<&'a mut Device>>
+    ensures { ⟦<WriteSink<Logged<&'a mut Device>> as Sink>⟧.failures result ≡ 0 }
+{
+    WriteSink::new(Logged::new(device))
+}
+
 /// Writes the line `s VALUE` to a device.
 fn write_value(device: &mut Device, value: i128) -> Result<(), Broken> {
-    write_s(&mut WriteSink::new(device), value)
+    write_s(&mut sink_of(device), value)
 }
 
 /// Writes a piece to a device.
 fn put(device: &mut Device, piece: &[u8]) -> Result<usize, Broken> {
-    WriteSink::new(device).write(piece)
+    sink_of(device).write(piece)
 }
 
 /// Reads a piece from a device.
@@ -105,7 +112,7 @@ fn get(device: &mut Device, piece: &mut [u8]) -> Result<usize, Broken> {
 
 /// Flushes a device.
 fn flush(device: &mut Device) -> Result<(), Broken> {
-    WriteSink::new(device).flush()
+    sink_of(device).flush()
 }
 
 #[test]
@@ -149,12 +156,12 @@ fn a_full_pad_fails(rt: HostRuntime) {
 fn each_line_is_one_write(rt: HostRuntime) {
     let mut device = Device::new(64, 0);
     for answer in [
-        write_s(&mut WriteSink::new(&mut device), i128::MIN),
-        write_f(&mut WriteSink::new(&mut device), 1, 2, i64::MIN),
-        write_v(&mut WriteSink::new(&mut device), 1, -1),
-        write_i(&mut WriteSink::new(&mut device), 1),
-        write_k(&mut WriteSink::new(&mut device), 1),
-        write_r(&mut WriteSink::new(&mut device), 1),
+        write_s(&mut sink_of(&mut device), i128::MIN),
+        write_f(&mut sink_of(&mut device), 1, 2, i64::MIN),
+        write_v(&mut sink_of(&mut device), 1, -1),
+        write_i(&mut sink_of(&mut device), 1),
+        write_k(&mut sink_of(&mut device), 1),
+        write_r(&mut sink_of(&mut device), 1),
     ] {
         expect_done(&rt, answer, Ok(()));
     }
@@ -168,7 +175,7 @@ fn expect_taken(rt: &impl Abort, device: &mut Device, piece: &mut [u8]) {
     let length = piece.len();
     expect_moved(rt, get(device, piece), Ok(length));
     expect_moved(rt, put(device, piece), Ok(length));
-    let answer = write_all(&mut WriteSink::new(device), piece);
+    let answer = write_all(&mut sink_of(device), piece);
     expect_done(rt, answer, Ok(()));
 }
 
