@@ -152,6 +152,8 @@ pub fn settle(
 {
     let pushed = push_and_raise(graph, flow, potentials, excess, scratch);
     mark_cut(graph, flow, excess, scratch, pushed.are_marked, cut);
+    // Edits list the nodes that they touch, balanced ones too.
+    excess.tidy();
     potentials.greatest = true;
     pushed.count
 }
