@@ -146,7 +146,7 @@ cut_word line begin value digits_end end begin_is lt le front end_is within =
       words_are = first.0 ∙ ap (λ (r : Line). take (end - begin) begun ∷ words_of r) ends;
     }
 
-blank_skipped : (byte : ℕ) (line : Line) → is_blank byte ≡ true → words_of (byte ∷ line) ≡ words_of line
+pub blank_skipped : (byte : ℕ) (line : Line) → is_blank byte ≡ true → words_of (byte ∷ line) ≡ words_of line
 unfolding words_of
 blank_skipped byte line e = rw e refl
 

@@ -7,6 +7,7 @@ pub mod PlaceLemmas
 pub mod WordLemmas
 pub mod NumberLemmas
 pub mod DigitLemmas
+pub mod FrontLemmas
 pub mod StreamLemmas
 pub mod ReaderLemmas
 pub mod EndLemmas

@@ -1,12 +1,12 @@
 -- The first word of a line, and the words after it.
-use Rattle.std.proofs.Common.{◌≡◌, ℕ, suc, ◌+◌, ◌<◌, Bool, true, false, cond, not, List, [], ◌∷◌, length, take, drop, get_or, refl, sym, ap, ◌∙◌, arith}
+use Rattle.std.proofs.Common.{◌≡◌, ℕ, suc, ◌+◌, ◌<◌, Bool, true, false, cond, not, [], ◌∷◌, length, take, drop, get_or, refl, ap, ◌∙◌, arith}
 use Rattle.std.proofs.Math.Numerals.{one-add}
 use Rattle.std.specs.List.{position_or_len}
-use Rattle.std.proofs.lemmas.List.{drop_more, nil_from_length, length-drop, get_or-drop, drop-drop}
+use Rattle.std.proofs.lemmas.List.{drop_more, nil_from_length, length-drop}
 use Rattle.std.proofs.lemmas.List.Sums.{passes_at_first}
 use Rattle.std.proofs.lemmas.Bool.{not-true}
 use Rattle.dimacs_lines.specs.Lines.{Line}
-use Rattle.dimacs_lines.specs.Fields.{Word, is_blank, begins_blank, with_byte, words_of}
+use Rattle.dimacs_lines.specs.Fields.{is_blank, begins_blank, with_byte, words_of}
 
 abbrev pub is_solid : ℕ → Bool
 is_solid byte = not (is_blank byte)
@@ -25,7 +25,7 @@ pub words_of-skip : (line : Line) → words_of line ≡ words_of (drop (position
 words_of-skip [] = refl
 words_of-skip (byte ∷ line) = skip_by (is_blank byte) byte line (position_or_len is_solid line) refl (words_of-skip line)
 
-words_of-solid : (byte : ℕ) (line : Line) → is_blank byte ≡ false → words_of (byte ∷ line) ≡ with_byte (begins_blank line) byte (words_of line)
+pub words_of-solid : (byte : ℕ) (line : Line) → is_blank byte ≡ false → words_of (byte ∷ line) ≡ with_byte (begins_blank line) byte (words_of line)
 unfolding words_of
 words_of-solid byte line solid = rw solid refl
 
@@ -59,9 +59,3 @@ first_word line skipped len e some len_is =
     let begun : drop skipped line ≡ get_or line skipped 0 ∷ drop (skipped + 1) line = drop_more line skipped 0 within in
     let place : len ≡ suc (position_or_len is_blank (drop (skipped + 1) line)) = len_is ∙ ap (position_or_len is_blank) begun ∙ place_by (get_or line skipped 0) (drop (skipped + 1) line) solid in
     (words_of-skip line ∙ rw (← e, begun, place) (words_of-first (get_or line skipped 0) (drop (skipped + 1) line) solid), omega arith)
-
--- the word that comes next after so many
-pub next_word : (words : List Word) (taken : ℕ) (word : Word) (others : List Word) → drop taken words ≡ word ∷ others → (get_or words taken [] ≡ word) × (drop (taken + 1) words ≡ others)
-next_word words taken word others e =
-    let at : taken + 0 ≡ taken = omega arith in
-    (sym (ap (λ (k : ℕ). get_or words k []) at) ∙ sym (get_or-drop taken words 0 []) ∙ ap (λ (left : List Word). get_or left 0 []) e, sym (drop-drop 1 taken words) ∙ ap (drop 1) e)

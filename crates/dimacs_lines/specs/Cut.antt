@@ -57,6 +57,12 @@ pub record IsWhole (line : Line) (piece : List ℕ) : Type 0 where
   pub ended : has_line_feed piece ≡ true
   pub fits : is_too_long line ≡ false
 
+-- the line at the front of a text is ended and not too long, and with its LF it has so many bytes
+pub record IsFront (used : ℕ) (text : List ℕ) : Type 0 where
+  pub used_is : used ≡ bytes_used text
+  pub ended : has_line_feed text ≡ true
+  pub fits : is_too_long (before_first is_line_feed text) ≡ false
+
 -- the cutter holds the line that a text leaves unended, or that it is too long
 abbrev pub HoldsRest : Cut → List ℕ → Type 0
 HoldsRest cut text = begun_line cut ≡ kept (parts_of text).rest

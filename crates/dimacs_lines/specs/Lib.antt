@@ -3,6 +3,7 @@ pub mod Cut
 pub mod Fault
 pub mod Fields
 pub mod Digits
+pub mod Front
 pub mod Checks
 pub mod Stream
 pub mod Reader

@@ -6,7 +6,8 @@ use Rattle.dimacs_lines.specs.declared.fault.LineError.TheVariants as line_error
 use Rattle.dimacs_lines.specs.declared.fault.TextFault.{TextFault}
 use Rattle.dimacs_lines.specs.declared.fault.TextFault.TheVariants as text_fault
 use Rattle.dimacs_lines.specs.Fault.{number_of}
-use Rattle.dimacs_lines.specs.Lines.{Line, Parts, parts_of, lines_of, is_too_long}
+use Rattle.std.specs.List.{before_first}
+use Rattle.dimacs_lines.specs.Lines.{Line, Parts, parts_of, lines_of, is_line_feed, is_too_long}
 use Rattle.dimacs_lines.specs.Cut.{Cut, kept, begun_line, part_line, begun_with, has_line_feed}
 
 -- the number of the fault of a line that fits, among the lines before it
@@ -78,6 +79,11 @@ module _ {T : Type 0} where
   abbrev pub TakesLine : Rule → (List Line → T → Type 0) → Result (Unit {0}) LineError → List Line → Line → T → Type 0
   TakesLine rule holds (Ok _) before line new = (rule before line ≡ None) × holds (before ++ line ∷ []) new
   TakesLine rule holds (Err e) before line new = Reports e (rule before line)
+
+  -- the line at the front of a text was taken, or nothing
+  abbrev pub TakesFront : Rule → (List Line → T → Type 0) → Option ℕ → List Line → List ℕ → T → Type 0
+  TakesFront rule holds None before text new = holds before new
+  TakesFront rule holds (Some used) before text new = TakesLine rule holds (Ok tt) before (before_first is_line_feed text) new
 
   abbrev pub TakesCut : Rule → (List Line → T → Type 0) → Result (Unit {0}) LineError → List Line → Option Line → Bool → T → Type 0
   TakesCut rule holds (Ok _) before line complete new = (cut_fault rule line complete before ≡ None) × holds (lines_after line complete before) new

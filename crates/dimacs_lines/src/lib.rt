@@ -4,6 +4,7 @@
 
 mod cutter;
 mod fault;
+mod front;
 mod limits;
 mod name;
 mod numbers;
@@ -13,6 +14,7 @@ mod words;
 
 pub use cutter::{LINE_LIMIT, LineCutter, ended_lines_stay};
 pub use fault::{LineError, LineFault, TextFault};
+pub use front::{line_end, next_integer, next_natural};
 pub use limits::limits_are;
 pub use name::{NAME_LIMIT, Name, names_are_compared};
 pub use numbers::{DIGIT_LIMIT, VALUE_DIGIT_LIMIT, claimed_value, integer_in, natural_in};

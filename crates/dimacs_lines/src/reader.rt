@@ -1,12 +1,12 @@
 //! Reading a text in pieces, line by line, under any rule for its lines.
 
-ghost use Rattle.std.specs.Prelude.{◌≡◌, ◌≢◌, ◌<◌, ◌≤◌, List, ℕ, [], ◌++◌, Option, None, Some, Result, Err, IfOk, IfErr, length};
+ghost use Rattle.std.specs.Prelude.{◌≡◌, ◌≢◌, ◌<◌, ◌≤◌, List, ℕ, [], ◌++◌, Option, None, Some, Result, Err, IfOk, IfErr, IfSome, length};
 ghost use Rattle.dimacs_lines.specs.declared.fault.LineFault.TheVariants as faults;
 ghost use Rattle.dimacs_lines.specs.declared.fault.TextFault.{TextFault};
-ghost use Rattle.dimacs_lines.specs.Cut.{bytes_used, has_line_feed};
+ghost use Rattle.dimacs_lines.specs.Cut.{bytes_used, has_line_feed, IsFront};
 ghost use Rattle.dimacs_lines.specs.Fault.{number_of};
 ghost use Rattle.dimacs_lines.specs.Lines.{Line, IsBytes};
-ghost use Rattle.dimacs_lines.specs.Stream.{Rule, TakesLine, TakesCut, TakesPart, EndsWell, decided, read_by};
+ghost use Rattle.dimacs_lines.specs.Stream.{Rule, TakesFront, TakesLine, TakesCut, TakesPart, EndsWell, decided, read_by};
 
 use crate::cutter::{LineCutter, whole_line};
 use crate::fault::{LineError, LineFault, TextFault};
@@ -21,6 +21,13 @@ pub trait LineTaker: Drop {
 
     /// What these lines tell is held.
     ghost holds: { Self.Setting → List (List ℕ) → Self → Type 0 };
+
+    /// Takes the line that a text begins with, where it is quick to take as it stands and has no fault, and answers how
+    /// many bytes it has with its LF. Else nothing is taken.
+    fn take_front(&mut self, text: &[u8]) -> Option<usize>
+        ensures front { IfSome result (λ used. IsFront used text.now) }
+        ensures taken { (setting : Self.Setting) (before : List (List ℕ)) → holds setting before self.old
+            → TakesFront (rule setting) (holds setting) result before text.now self.new };
 
     /// Takes a line that is not too long.
     fn take_line(&mut self, line: &[u8]) -> Result<(), LineError>
@@ -51,6 +58,7 @@ fn take_cut<T: LineTaker>(
 
 /// Takes the piece through its first LF, and answers how many bytes and whether a line is complete. A line that stands
 /// whole in the piece is taken as it stands; the cutter joins the others.
+#[inline(always)]
 fn take_part<T: LineTaker>(
     cutter: &mut LineCutter,
     taker: &mut T,
@@ -61,12 +69,31 @@ fn take_part<T: LineTaker>(
     ensures taken { (setting : T.Setting) (before : List (List ℕ)) → T.holds setting before taker.old
         → TakesPart (T.rule setting) (T.holds setting) result before cutter.old piece.now cutter.new taker.new }
 {
-    if !cutter.begun() {
-        if let Some(line) = whole_line(piece) {
-            taker.take_line(line)?;
-            return Ok((line.len() + 1, true));
-        }
+    if cutter.begun() {
+        return take_joined(cutter, taker, piece);
     }
+    if let Some(used) = taker.take_front(piece) {
+        return Ok((used, true));
+    }
+    if let Some(line) = whole_line(piece) {
+        taker.take_line(line)?;
+        return Ok((line.len() + 1, true));
+    }
+    take_joined(cutter, taker, piece)
+}
+
+/// The same by the cutter, which joins the parts of a line.
+#[inline(never)]
+fn take_joined<T: LineTaker>(
+    cutter: &mut LineCutter,
+    taker: &mut T,
+    piece: &[u8],
+) -> Result<(usize, bool), LineError>
+    requires { 0 < length piece.now }
+    ensures part { IfOk result (λ part. (part.0 ≡ bytes_used piece.now) × (part.1 ≡ has_line_feed piece.now)) }
+    ensures taken { (setting : T.Setting) (before : List (List ℕ)) → T.holds setting before taker.old
+        → TakesPart (T.rule setting) (T.holds setting) result before cutter.old piece.now cutter.new taker.new }
+{
     let (used, complete) = cutter.take(piece);
     take_cut(cutter, complete, taker)?;
     Ok((used, complete))

@@ -1,6 +1,6 @@
 //! The words of a line.
 
-ghost use Rattle.std.specs.Prelude.{◌≡◌, ◌≢◌, ◌↔◌, IsTrue, ◌∷◌, [], ◌<◌, ◌≤◌, ◌+◌, length, drop, min, not, if◌then◌else◌, Some, EachIndex, slice_index, slice_index_or, IfSome, MatchOption, MatchResult, ◌^◌};
+ghost use Rattle.std.specs.Prelude.{◌≡◌, ◌≢◌, ◌↔◌, IsTrue, ◌∷◌, [], ◌<◌, ◌≤◌, ◌+◌, length, drop, min, not, IfSome, MatchOption, MatchResult, ◌^◌};
 ghost use Rattle.std.specs.List.{position_or_len};
 ghost use Rattle.dimacs_lines.specs.Fields.{is_blank, words_of, natural};
 ghost use Rattle.dimacs_lines.specs.declared.fault.LineFault.TheVariants as LineFault;
@@ -106,36 +106,6 @@ impl<'a> Words<'a> {
         Some(word)
     }
 
-    /// The same words once more.
-    pub fn again(&self) -> Words<'a>
-        ensures { result ≡ self.now }
-    {
-        Words { rest: self.rest }
-    }
-
-    /// Takes as many words as there are values, and writes the number of each, where each spells one without a sign. Else
-    /// no word is taken.
-    #[inline(never)]
-    pub fn naturals(&mut self, values: &mut [u64]) -> bool
-        ensures numbers { IsTrue result → EachIndex values.new (λ place. natural (slice_index_or self.old place []) ≡ Some (slice_index values.new place)) }
-        ensures enough { IsTrue result → length values.new ≤ length self.old }
-        ensures rest { self.new ≡ (if result then drop (length values.new) self.old else self.old) }
-    {
-        let mut rest = self.rest;
-        for value in values.iter_mut() {
-            let Some((word, others)) = split_word(rest) else {
-                return false;
-            };
-            let Some(number) = word.natural() else {
-                return false;
-            };
-            *value = number;
-            rest = others;
-        }
-        self.rest = rest;
-        true
-    }
-
     /// Takes the next word, which has to be there.
     #[inline(always)]
     fn word(&mut self) -> Result<Word<'a>, LineFault>
@@ -223,7 +193,7 @@ fn split_word(line: &[u8]) -> Option<(Word<'_>, &[u8])>
 
 /// The first place from this one on where no blank stands, or the end of the line.
 #[inline(always)]
-fn solid_from(line: &[u8], from: usize) -> usize
+pub(crate) fn solid_from(line: &[u8], from: usize) -> usize
     requires { from ≤ length line.now }
     ensures place { result ≡ from + position_or_len (λ byte. not (is_blank byte)) (drop from line.now) }
     ensures within { result ≤ length line.now }

@@ -10,7 +10,11 @@ use Rattle.dimacs_text.specs.declared.problem.Kind.{Kind}
 use Rattle.dimacs_text.specs.declared.problem.NodeMark.{NodeMark}
 use Rattle.dimacs_text.specs.declared.problem.ArcRow.{ArcRow}
 use Rattle.dimacs_text.specs.declared.problem.Size.{Size}
-use Rattle.dimacs_lines.specs.Lines.{Line, lines_of}
+use Rattle.std.specs.List.{before_first}
+use Rattle.dimacs_lines.specs.Lines.{Line, is_line_feed, lines_of}
+use Rattle.dimacs_lines.specs.Fields.{Word}
+use Rattle.dimacs_lines.specs.Cut.{IsFront}
+use Rattle.dimacs_lines.specs.Front.{AreLastWords}
 use Rattle.dimacs_text.specs.Problem.{Parsed, parsed_of, and_parsed, line_fault, has_terminals}
 use Rattle.dimacs_lines.specs.Stream.{Rule, Reports, first_fault, fault_or, or_at}
 
@@ -52,3 +56,14 @@ TakesAs (Err e) found expected new = Reports e found
 -- a line was taken
 abbrev pub Takes : Result (Unit {0}) LineError → Line → Parsed → Parsed → Type 0
 Takes result line old new = TakesAs result (line_fault old line) (and_parsed old line) new
+
+-- the line at the front of a text was taken, or nothing
+abbrev pub TakesFirst : Option ℕ → List ℕ → Parsed → Parsed → Type 0
+TakesFirst None text old new = new ≡ old
+TakesFirst (Some used) text old new = IsFront used text × Takes (Ok tt) (before_first is_line_feed text) old new
+
+-- behind a designator of one byte, the first line of a text has fields that are read so; with its LF it has so many bytes
+pub record Says {A : Type 0} (read : List Word → Result A ProblemFault) (text : List ℕ) (x : A) (used : ℕ) : Type 0 where
+  pub fields : List Word
+  pub is_read : read fields ≡ Ok x
+  pub fields_are : AreLastWords text 1 fields used

@@ -22,6 +22,11 @@ impl LineTaker for AnswerDraft {
 
     ghost holds = { λ size. holds_lines size.0 size.1 };
 
+    #[inline(always)]
+    fn take_front(&mut self, _text: &[u8]) -> Option<usize> {
+        None
+    }
+
     fn take_line(&mut self, line: &[u8]) -> Result<(), LineError> {
         self.take(line)
     }

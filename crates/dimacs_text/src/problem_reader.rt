@@ -20,6 +20,11 @@ impl LineTaker for Draft {
     ghost holds = { λ _. holds_lines };
 
     #[inline(always)]
+    fn take_front(&mut self, text: &[u8]) -> Option<usize> {
+        self.take_first(text)
+    }
+
+    #[inline(always)]
     fn take_line(&mut self, line: &[u8]) -> Result<(), LineError> {
         self.take(line)
     }

@@ -1,6 +1,6 @@
 //! Lines that are cut, and their words.
 
-use dimacs_lines::{LineCutter, Words, is_blank};
+use dimacs_lines::{LineCutter, is_blank, line_end, next_integer, next_natural};
 use std::process::Abort;
 
 /// The cutter takes so many bytes of a piece, and they end its line or do not.
@@ -22,14 +22,12 @@ fn a_line_is_cut(rt: HostRuntime) {
 }
 
 #[test]
-fn numbers_are_taken_at_once(rt: HostRuntime) {
-    let mut words = Words::new(b"12 \t007 -5\r");
-    let mut values = [0; 2];
-    assert!(rt; words.naturals(&mut values));
-    assert!(rt; values.as_slice() == [12, 7].as_slice());
-    assert!(rt; !words.naturals(&mut values));
-    match words.one() {
-        Ok(word) => assert!(rt; word.integer() == Some(-5)),
-        Err(_) => panic!(rt; "one word is left"),
-    }
+fn numbers_are_read_where_they_stand(rt: HostRuntime) {
+    let text = b"a 12 \t007 -5\r\n".as_slice();
+    assert!(rt; next_natural(text, 1) == Some((12, 4)));
+    assert!(rt; next_natural(text, 4) == Some((7, 9)));
+    assert!(rt; next_natural(text, 9).is_none());
+    assert!(rt; next_integer(text, 9) == Some((-5, 12)));
+    assert!(rt; line_end(text, 9).is_none());
+    assert!(rt; line_end(text, 12) == Some(14));
 }
