@@ -1,6 +1,6 @@
 -- The words of a line, and the numbers that words spell.
-use Rattle.std.specs.Prelude.{ℕ, ◌+◌, ◌-◌, ◌*◌, Bool, true, false, ◌&&◌, ◌||◌, List, [], ◌∷◌, Option, Some, None, length, nat_le, ◌==◌, if◌then◌else◌, ℤ, pos, neg_ℤ}
-use Rattle.std.specs.List.{fold, list_all}
+use Rattle.std.specs.Prelude.{ℕ, ◌+◌, ◌-◌, ◌*◌, Bool, true, false, not, ◌&&◌, ◌||◌, List, [], ◌∷◌, Option, Some, None, length, drop, nat_le, ◌==◌, if◌then◌else◌, ℤ, pos, neg_ℤ}
+use Rattle.std.specs.List.{fold, list_all, position_or_len}
 use Rattle.std.specs.Option.{option_map}
 use Rattle.dimacs_lines.specs.declared.numbers.TheConstants.{DIGIT_LIMIT, VALUE_DIGIT_LIMIT}
 use Rattle.dimacs_lines.specs.Lines.{Line}
@@ -26,6 +26,10 @@ with_byte false byte (word ∷ words) = (byte ∷ word) ∷ words
 unfoldable pub words_of : Line → List Word
 words_of [] = []
 words_of (byte ∷ line) = if is_blank byte then words_of line else with_byte (begins_blank line) byte (words_of line)
+
+-- where the next word begins from a place on, or where the line ends
+abbrev pub word_begin : Line → ℕ → ℕ
+word_begin line from = from + position_or_len (λ byte. not (is_blank byte)) (drop from line)
 
 abbrev pub is_digit : ℕ → Bool
 is_digit byte = nat_le 48 byte && nat_le byte 57

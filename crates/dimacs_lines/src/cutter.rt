@@ -121,7 +121,8 @@ impl LineCutter {
 
 /// A law, with nothing to run: the lines that a text ends stay where it goes on, and others may follow them.
 pub fn ended_lines_stay()
-    ensures { (text more : List ℕ) → (others : List Line) × ((parts_of (text ++ more)).ended ≡ (parts_of text).ended ++ others) }
+    ensures { (text more : List ℕ) → (others : List Line)
+        × ((parts_of (text ++ more)).ended ≡ (parts_of text).ended ++ others) }
 {}
 
 /// The line that a piece begins with, where all of it stands there and it is not too long.

@@ -26,7 +26,8 @@ pub trait LineTaker: Drop {
     /// many bytes it has with its LF. Else nothing is taken.
     fn take_front(&mut self, text: &[u8]) -> Option<usize>
         ensures front { IfSome result (λ used. IsFront used text.now) }
-        ensures taken { (setting : Self.Setting) (before : List (List ℕ)) → holds setting before self.old
+        ensures taken { (setting : Self.Setting) (before : List (List ℕ))
+            → holds setting before self.old
             → TakesFront (rule setting) (holds setting) result before text.now self.new };
 
     /// Takes a line that is not too long.
@@ -65,9 +66,12 @@ fn take_part<T: LineTaker>(
     piece: &[u8],
 ) -> Result<(usize, bool), LineError>
     requires { 0 < length piece.now }
-    ensures part { IfOk result (λ part. (part.0 ≡ bytes_used piece.now) × (part.1 ≡ has_line_feed piece.now)) }
-    ensures taken { (setting : T.Setting) (before : List (List ℕ)) → T.holds setting before taker.old
-        → TakesPart (T.rule setting) (T.holds setting) result before cutter.old piece.now cutter.new taker.new }
+    ensures used { IfOk result (λ part. part.0 ≡ bytes_used piece.now) }
+    ensures complete { IfOk result (λ part. part.1 ≡ has_line_feed piece.now) }
+    ensures taken { (setting : T.Setting) (before : List (List ℕ))
+        → T.holds setting before taker.old
+        → TakesPart (T.rule setting) (T.holds setting) result before cutter.old piece.now
+        cutter.new taker.new }
 {
     if cutter.begun() {
         return take_joined(cutter, taker, piece);
@@ -90,9 +94,12 @@ fn take_joined<T: LineTaker>(
     piece: &[u8],
 ) -> Result<(usize, bool), LineError>
     requires { 0 < length piece.now }
-    ensures part { IfOk result (λ part. (part.0 ≡ bytes_used piece.now) × (part.1 ≡ has_line_feed piece.now)) }
-    ensures taken { (setting : T.Setting) (before : List (List ℕ)) → T.holds setting before taker.old
-        → TakesPart (T.rule setting) (T.holds setting) result before cutter.old piece.now cutter.new taker.new }
+    ensures used { IfOk result (λ part. part.0 ≡ bytes_used piece.now) }
+    ensures complete { IfOk result (λ part. part.1 ≡ has_line_feed piece.now) }
+    ensures taken { (setting : T.Setting) (before : List (List ℕ))
+        → T.holds setting before taker.old
+        → TakesPart (T.rule setting) (T.holds setting) result before cutter.old piece.now
+        cutter.new taker.new }
 {
     let (used, complete) = cutter.take(piece);
     take_cut(cutter, complete, taker)?;
@@ -113,7 +120,8 @@ impl<T: LineTaker> TextReader<T> {
 
     /// A reader of the empty text.
     pub fn new(taker: T) -> Self
-        ensures text { (setting : T.Setting) → T.holds setting [] taker → StandsFor (T.rule setting) (T.holds setting) result [] }
+        ensures text { (setting : T.Setting) → T.holds setting [] taker
+            → StandsFor (T.rule setting) (T.holds setting) result [] }
         ensures undecided { (setting : T.Setting) → decided (T.rule setting) [] ≡ None }
     {
         TextReader {
@@ -126,9 +134,11 @@ impl<T: LineTaker> TextReader<T> {
 
     /// Takes the next piece of the text, and answers the fault that is decided by now.
     pub fn feed(&mut self, piece: &[u8]) -> Result<(), TextFault>
-        ensures text { (setting : T.Setting) (text : List ℕ) → StandsFor (T.rule setting) (T.holds setting) self.old text
+        ensures text { (setting : T.Setting) (text : List ℕ)
+            → StandsFor (T.rule setting) (T.holds setting) self.old text
             → Feeds (T.rule setting) (T.holds setting) result self.new (text ++ piece.now) }
-        ensures memory { (setting : T.Setting) (text : List ℕ) → StandsFor (T.rule setting) (T.holds setting) self.old text
+        ensures memory { (setting : T.Setting) (text : List ℕ)
+            → StandsFor (T.rule setting) (T.holds setting) self.old text
             → result ≡ Err TextFault.Memory → EndsWell (T.rule setting) text piece.now }
         // Every later call answers the same.
         ensures err { IfErr result (HasFailed self.new) }
@@ -150,7 +160,8 @@ impl<T: LineTaker> TextReader<T> {
         requires { 0 < length piece.now }
         ensures used { IfOk result (λ used. (0 < used) × (used ≤ length piece.now)) }
         ensures err { IfErr result (HasFailed self.new) }
-        ensures text { (setting : T.Setting) (text : List ℕ) → StandsFor (T.rule setting) (T.holds setting) self.old text
+        ensures text { (setting : T.Setting) (text : List ℕ)
+            → StandsFor (T.rule setting) (T.holds setting) self.old text
             → FeedsPart (T.rule setting) (T.holds setting) result piece.now self.new text }
     {
         if let Some(failure) = self.failure {
@@ -174,7 +185,8 @@ impl<T: LineTaker> TextReader<T> {
 
     /// Ends the text, and answers its taker and the number of its lines.
     pub fn finish(self) -> Result<(T, u64), TextFault>
-        ensures text { (setting : T.Setting) (text : List ℕ) → StandsFor (T.rule setting) (T.holds setting) self text
+        ensures text { (setting : T.Setting) (text : List ℕ)
+            → StandsFor (T.rule setting) (T.holds setting) self text
             → Finishes (T.rule setting) (T.holds setting) result text }
         ensures failed { (e : TextFault) → HasFailed self e → result ≡ Err e }
     {
@@ -202,11 +214,13 @@ impl<T: LineTaker> TextReader<T> {
 /// decides a fault exactly if every text that continues it is read as that fault. The empty text decides none.
 pub fn decided_for_any_rule<A>()
     ensures nothing { (rule : Rule) → decided rule [] ≡ None }
-    ensures always { (rule : Rule) (ends : List Line → Result A TextFault) (text more : List ℕ) (fault : TextFault)
+    ensures always { (rule : Rule) (ends : List Line → Result A TextFault)
+        → (text more : List ℕ) (fault : TextFault)
         → decided rule text ≡ Some fault → read_by rule ends (text ++ more) ≡ Err fault }
     ensures only { (rule : Rule) (ends : List Line → Result A TextFault)
         → ((before : List Line) (line : Line) → rule before line ≢ Some (number_of faults.TooLong))
         → ((lines : List Line) (at : ℕ) → ends lines ≢ Err (TextFault.Fault (number_of faults.TooLong) at))
         → (text : List ℕ) (fault : TextFault)
-        → ((more : List ℕ) → IsBytes more → read_by rule ends (text ++ more) ≡ Err fault) → decided rule text ≡ Some fault }
+        → ((more : List ℕ) → IsBytes more → read_by rule ends (text ++ more) ≡ Err fault)
+        → decided rule text ≡ Some fault }
 {}

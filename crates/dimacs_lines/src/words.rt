@@ -1,8 +1,8 @@
 //! The words of a line.
 
-ghost use Rattle.std.specs.Prelude.{◌≡◌, ◌≢◌, ◌↔◌, IsTrue, ◌∷◌, [], ◌<◌, ◌≤◌, ◌+◌, length, drop, min, not, IfSome, MatchOption, MatchResult, ◌^◌};
+ghost use Rattle.std.specs.Prelude.{◌≡◌, ◌≢◌, ◌↔◌, IsTrue, ◌∷◌, [], ◌<◌, ◌≤◌, ◌+◌, length, drop, min, IfSome, MatchOption, MatchResult, ◌^◌};
 ghost use Rattle.std.specs.List.{position_or_len};
-ghost use Rattle.dimacs_lines.specs.Fields.{is_blank, words_of, natural};
+ghost use Rattle.dimacs_lines.specs.Fields.{is_blank, word_begin, words_of, natural};
 ghost use Rattle.dimacs_lines.specs.declared.fault.LineFault.TheVariants as LineFault;
 
 use crate::fault::LineFault;
@@ -99,7 +99,8 @@ impl<'a> Words<'a> {
     /// Takes the next word, if there is one.
     #[inline(always)]
     pub fn next(&mut self) -> Option<Word<'a>>
-        ensures { MatchOption result ((self.old ≡ []) × (self.new ≡ [])) (λ word. self.old ≡ word ∷ self.new) }
+        ensures { MatchOption result ((self.old ≡ []) × (self.new ≡ []))
+            (λ word. self.old ≡ word ∷ self.new) }
     {
         let (word, rest) = split_word(self.rest)?;
         self.rest = rest;
@@ -109,7 +110,8 @@ impl<'a> Words<'a> {
     /// Takes the next word, which has to be there.
     #[inline(always)]
     fn word(&mut self) -> Result<Word<'a>, LineFault>
-        ensures { MatchResult result (λ word. self.old ≡ word ∷ self.new) (λ fault. (fault ≡ LineFault.WrongFieldCount) × (self.old ≡ [])) }
+        ensures { MatchResult result (λ word. self.old ≡ word ∷ self.new)
+            (λ fault. (fault ≡ LineFault.WrongFieldCount) × (self.old ≡ [])) }
     {
         self.next().ok_or(LineFault::WrongFieldCount)
     }
@@ -117,7 +119,8 @@ impl<'a> Words<'a> {
     /// No word may be left, else `WrongFieldCount`.
     #[inline(always)]
     pub fn none(mut self) -> Result<(), LineFault>
-        ensures { MatchResult result (λ _. self.entry ≡ []) (λ fault. (fault ≡ LineFault.WrongFieldCount) × (length self.entry ≢ 0)) }
+        ensures { MatchResult result (λ _. self.entry ≡ [])
+            (λ fault. (fault ≡ LineFault.WrongFieldCount) × (length self.entry ≢ 0)) }
     {
         match self.next() {
             None => Ok(()),
@@ -128,7 +131,8 @@ impl<'a> Words<'a> {
     /// The only word that is left, or `WrongFieldCount`.
     #[inline(always)]
     pub fn one(mut self) -> Result<Word<'a>, LineFault>
-        ensures { MatchResult result (λ word. self.entry ≡ word ∷ []) (λ fault. (fault ≡ LineFault.WrongFieldCount) × (length self.entry ≢ 1)) }
+        ensures { MatchResult result (λ word. self.entry ≡ word ∷ [])
+            (λ fault. (fault ≡ LineFault.WrongFieldCount) × (length self.entry ≢ 1)) }
     {
         let word = self.word()?;
         self.none()?;
@@ -178,8 +182,10 @@ pub fn is_blank(line: &[u8]) -> bool
 /// The first word of a line, and the line after it and the blank that ends it.
 #[inline(always)]
 fn split_word(line: &[u8]) -> Option<(Word<'_>, &[u8])>
-    ensures words { MatchOption result (words_of line.now ≡ []) (λ parts. words_of line.now ≡ parts.0 ∷ words_of parts.1.now) }
-    ensures shorter { MatchOption result (0 ≤ length line.now) (λ parts. length parts.1.now < length line.now) }
+    ensures words { MatchOption result (words_of line.now ≡ [])
+        (λ parts. words_of line.now ≡ parts.0 ∷ words_of parts.1.now) }
+    ensures shorter { MatchOption result (0 ≤ length line.now)
+        (λ parts. length parts.1.now < length line.now) }
 {
     let begin = solid_from(line, 0);
     if begin == line.len() {
@@ -195,7 +201,7 @@ fn split_word(line: &[u8]) -> Option<(Word<'_>, &[u8])>
 #[inline(always)]
 pub(crate) fn solid_from(line: &[u8], from: usize) -> usize
     requires { from ≤ length line.now }
-    ensures place { result ≡ from + position_or_len (λ byte. not (is_blank byte)) (drop from line.now) }
+    ensures place { result ≡ word_begin line.now from }
     ensures within { result ≤ length line.now }
 {
     for at in from..line.len() {
@@ -241,7 +247,7 @@ fn later_blank(line: &[u8], from: usize) -> (usize, usize)
 }
 
 /// Space, tab and CR.
-fn is_blank_byte(byte: u8) -> bool
+pub(crate) fn is_blank_byte(byte: u8) -> bool
     ensures { result ≡ is_blank byte }
 {
     byte == b' ' || byte == b'\t' || byte == b'\r'

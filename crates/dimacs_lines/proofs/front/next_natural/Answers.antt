@@ -4,5 +4,5 @@ use Rattle.dimacs_lines.proofs.front.next_natural.Goals as goal
 
 pub returns-clause-word : goal.returns-clause-word
 returns-clause-word c =
-    let begin = c.solid_from-begin in
+    let begin = c.word_from-begin in
     natural_read c.args.text.now c.args.from begin.result c.some_digits.result begin.ensures.place (omega (arith, begin.ensures.place, c.if-begin-from.false)) c.some_digits.ensures.digits

@@ -7,23 +7,23 @@ pub returns-in-Some-clause-text : goal.returns-in-Some-clause-text
 returns-in-Some-clause-text g c = λ setting text stands. law.tells_failed (g.T.LineTaker.rule setting) c.in-Some.failure text c.args.piece.now (rw c.in-Some.is at stands)
 
 pub returns-then-complete-clause-used : goal.returns-then-complete-clause-used
-returns-then-complete-clause-used g c = used_within c.args.piece.now c.in-Ok.used c.requires c.in-Ok.ensures.part.0
+returns-then-complete-clause-used g c = used_within c.args.piece.now c.in-Ok.used c.requires c.in-Ok.ensures.used
 
 pub returns-then-complete-clause-text : goal.returns-then-complete-clause-text
 returns-then-complete-clause-text g c =
-    let old = c.args.self.now in let part = c.in-Ok.ensures.part in
+    let old = c.args.self.now in let part = c.in-Ok.ensures in
     λ setting text stands.
-    let taken = law.part_taken (g.T.LineTaker.rule setting) (g.T.LineTaker.holds setting) text c.args.piece.now old.cutter c.take_part.new.cutter old.taker c.take_part.new.taker old.lines c.in-Ok.used c.in-Ok.complete c.requires part.0 part.1 (λ before held. c.in-Ok.ensures.taken setting before held) (rw c.in_default.is at stands) in
+    let taken = law.part_taken (g.T.LineTaker.rule setting) (g.T.LineTaker.holds setting) text c.args.piece.now old.cutter c.take_part.new.cutter old.taker c.take_part.new.taker old.lines c.in-Ok.used c.in-Ok.complete c.requires part.used part.complete (λ before held. c.in-Ok.ensures.taken setting before held) (rw c.in_default.is at stands) in
     (taken.0, rw (c.in_default.is, c.saturating_add-line.ensures) (rw c.if-complete.true at taken.1))
 
 pub returns-else-complete-clause-used : goal.returns-else-complete-clause-used
-returns-else-complete-clause-used g c = used_within c.args.piece.now c.in-Ok.used c.requires c.in-Ok.ensures.part.0
+returns-else-complete-clause-used g c = used_within c.args.piece.now c.in-Ok.used c.requires c.in-Ok.ensures.used
 
 pub returns-else-complete-clause-text : goal.returns-else-complete-clause-text
 returns-else-complete-clause-text g c =
-    let old = c.args.self.now in let part = c.in-Ok.ensures.part in
+    let old = c.args.self.now in let part = c.in-Ok.ensures in
     λ setting text stands.
-    let taken = law.part_taken (g.T.LineTaker.rule setting) (g.T.LineTaker.holds setting) text c.args.piece.now old.cutter c.take_part.new.cutter old.taker c.take_part.new.taker old.lines c.in-Ok.used c.in-Ok.complete c.requires part.0 part.1 (λ before held. c.in-Ok.ensures.taken setting before held) (rw c.in_default.is at stands) in
+    let taken = law.part_taken (g.T.LineTaker.rule setting) (g.T.LineTaker.holds setting) text c.args.piece.now old.cutter c.take_part.new.cutter old.taker c.take_part.new.taker old.lines c.in-Ok.used c.in-Ok.complete c.requires part.used part.complete (λ before held. c.in-Ok.ensures.taken setting before held) (rw c.in_default.is at stands) in
     (taken.0, rw c.in_default.is (rw c.if-complete.false at taken.1))
 
 pub returns-in-Err-clause-text : goal.returns-in-Err-clause-text
