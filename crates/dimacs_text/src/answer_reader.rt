@@ -90,7 +90,8 @@ impl AnswerReader {
 pub fn answer_decided_for_all()
     ensures nothing { (nodes arcs : ℕ) → decided (answer_rule nodes arcs) [] ≡ None }
     ensures always { (nodes arcs : ℕ) (text more : List ℕ) (fault : TextFault)
-        → decided (answer_rule nodes arcs) text ≡ Some fault → answers nodes arcs (text ++ more) ≡ Err fault }
+        → decided (answer_rule nodes arcs) text ≡ Some fault
+        → answers nodes arcs (text ++ more) ≡ Err fault }
     ensures only { (nodes arcs : ℕ) (text : List ℕ) (fault : TextFault)
         → ((more : List ℕ) → IsBytes more → answers nodes arcs (text ++ more) ≡ Err fault)
         → decided (answer_rule nodes arcs) text ≡ Some fault }

@@ -189,8 +189,10 @@ pub(crate) fn read_line(kind: Kind, line: &[u8]) -> Result<Command, CommandFault
 
 /// A law, with nothing to run: the lines that open and end a group are the same for every kind.
 pub fn groups_are_bracketed()
-    ensures opens { (kind : Kind) (line : Line) → (asked kind line ≡ Ok commands.Group) ↔ IsTrue (opens_group line) }
-    ensures ends { (kind : Kind) (line : Line) → (asked kind line ≡ Ok commands.End) ↔ IsTrue (ends_group line) }
+    ensures opens { (kind : Kind) (line : Line) → (asked kind line ≡ Ok commands.Group)
+        ↔ IsTrue (opens_group line) }
+    ensures ends { (kind : Kind) (line : Line) → (asked kind line ≡ Ok commands.End)
+        ↔ IsTrue (ends_group line) }
 {}
 
 /// Reads the words of a line.

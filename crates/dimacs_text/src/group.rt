@@ -59,9 +59,12 @@ impl Group {
     /// Takes the next line, or `None` for one that is too long, and answers whether it ends the group. Blank lines are
     /// to be passed over by the caller.
     pub fn take(&mut self, kind: Kind, line: Option<&[u8]>) -> bool
-        ensures ends { (whole : Line) → option_map (λ line. line.now) line.entry ≡ kept whole → result ≡ ends_group whole }
-        ensures lines { (whole : Line) → option_map (λ line. line.now) line.entry ≡ kept whole → (lines : List Line)
-            → self.old ≡ gathered kind 0 lines → self.new ≡ gathered kind 0 (and_line (ends_group whole) lines whole) }
+        ensures ends { (whole : Line) → option_map (λ line. line.now) line.entry ≡ kept whole
+            → result ≡ ends_group whole }
+        ensures lines { (whole : Line) → option_map (λ line. line.now) line.entry ≡ kept whole
+            → (lines : List Line)
+            → self.old ≡ gathered kind 0 lines
+            → self.new ≡ gathered kind 0 (and_line (ends_group whole) lines whole) }
     {
         self.take_asked(asked(kind, line))
     }
@@ -116,7 +119,8 @@ fn edit_of(asked: Result<Command, CommandFault>) -> Result<Edit, CommandFault>
 
 /// What a line asks for; it is not known where it is too long.
 fn asked(kind: Kind, line: Option<&[u8]>) -> Result<Command, CommandFault>
-    ensures { (whole : Line) → option_map (λ line. line.now) line.entry ≡ kept whole → result ≡ asked kind whole }
+    ensures { (whole : Line) → option_map (λ line. line.now) line.entry ≡ kept whole
+        → result ≡ asked kind whole }
 {
     match line {
         None => Err(LineFault::TooLong.into()),

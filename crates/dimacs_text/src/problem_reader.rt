@@ -53,7 +53,8 @@ impl ProblemReader {
     /// Takes the next piece of the text, and answers the fault that is decided by now: the first one, at its line's LF,
     /// or at the byte that makes the line too long. After a fault or want of memory every later call answers the same.
     pub fn feed(&mut self, piece: &[u8]) -> Result<(), TextFault>
-        ensures text { (text : List ℕ) → StandsFor self.old text → Feeds result self.new (text ++ piece.now) }
+        ensures text { (text : List ℕ) → StandsFor self.old text
+            → Feeds result self.new (text ++ piece.now) }
         // No want of memory stands for a fault: it is answered at the end of a line before any.
         ensures memory { (text : List ℕ) → StandsFor self.old text → result ≡ Err TextFault.Memory
             → EndsWell problem_rule text piece.now }
@@ -84,7 +85,8 @@ pub fn decided_for_all()
     ensures always { (text more : List ℕ) (fault : TextFault)
         → decided problem_rule text ≡ Some fault → reads (text ++ more) ≡ Err fault }
     ensures only { (text : List ℕ) (fault : TextFault)
-        → ((more : List ℕ) → IsBytes more → reads (text ++ more) ≡ Err fault) → decided problem_rule text ≡ Some fault }
+        → ((more : List ℕ) → IsBytes more → reads (text ++ more) ≡ Err fault)
+        → decided problem_rule text ≡ Some fault }
 {
     decided_for_any_rule::<Problem>();
 }
