@@ -8,8 +8,8 @@ use Rattle.dimacs_text.specs.declared.problem.TheConstants.{SUPPLY_LIMIT}
 use Rattle.dimacs_text.specs.Lawful.{IsLawfulRow, IsWithin}
 use Rattle.network.specs.declared.Goal.{Goal}
 use Rattle.network.specs.declared.Goal.TheVariants.{LeastCost, GreatestFlow, Assignment}
-use Rattle.network.specs.Instance.{IsLawful, ArcFits, DemandFits, at_node, kind_of, reduced_supply, with_supply}
-use Rattle.network.specs.Representation.{demand_by, instance_of, IsSound}
+use Rattle.network.specs.Instance.{IsLawful, ArcFits, DemandFits, at_node, kind_of, reduced_arcs, reduced_supply, with_supply}
+use Rattle.network.specs.Representation.{demand_by, instance_of, IsSound, arcs_in}
 
 pub lawful_push : (nodes : ℕ) (goal : Goal) (supplies : List ℤ) (arcs : List ArcRow) (room : ℕ) (row : ArcRow) → IsLawful (instance_of nodes goal supplies arcs room)
     → length arcs < room → IsLawfulRow nodes row → ArcFits (demand_by goal supplies) row → IsLawful (instance_of nodes goal supplies (arcs ++ row ∷ []) room)
@@ -71,10 +71,17 @@ rows_set LeastCost supplies k x row kind = tt
 rows_set (GreatestFlow source sink) supplies k x row kind = absurd (cc kind)
 rows_set Assignment supplies k x row kind = absurd (cc kind)
 
-pub sound_supply : (nodes : ℕ) (goal : Goal) (supplies : List ℤ) (arcs : List ArcRow) (room : ℕ) (ends next : List (Option ℕ)) (arcs_room next_room k : ℕ) (x : ℤ)
-    → kind_of (demand_by goal supplies) ≡ Min → IsWithin SUPPLY_LIMIT x → IsSound nodes goal supplies arcs room ends next arcs_room next_room
-    → IsSound nodes goal (set supplies k x) arcs room ends next arcs_room next_room
-sound_supply nodes goal supplies arcs room ends next arcs_room next_room k x kind within sound = record {
+-- other supplies leave the rows
+reduced_supplied : (goal : Goal) (supplies : List ℤ) (k : ℕ) (x : ℤ) (arcs : List ArcRow) → reduced_arcs (demand_by goal supplies) arcs ≡ reduced_arcs (demand_by goal (set supplies k x)) arcs
+reduced_supplied LeastCost supplies k x arcs = refl
+reduced_supplied (GreatestFlow source sink) supplies k x arcs = refl
+reduced_supplied Assignment supplies k x arcs = refl
+
+pub sound_supply : (nodes : ℕ) (goal : Goal) (supplies : List ℤ) (rows : List ArcRow) (room : ℕ) (ends next : List (Option ℕ)) (rows_room next_room k : ℕ) (x : ℤ)
+    → kind_of (demand_by goal supplies) ≡ Min → IsWithin SUPPLY_LIMIT x → IsSound nodes goal supplies rows room ends next rows_room next_room
+    → IsSound nodes goal (set supplies k x) rows room ends next rows_room next_room
+sound_supply nodes goal supplies rows room ends next rows_room next_room k x kind within sound = record {
+  rows_are = sound.rows_are ∙ reduced_supplied goal supplies k x (arcs_in goal rows);
   lawful = record {
     nodes = sound.lawful.nodes;
     demand = fits_set nodes goal supplies k x kind within sound.lawful.demand;
@@ -86,6 +93,6 @@ sound_supply nodes goal supplies arcs room ends next arcs_room next_room k x kin
   supply_is = λ v least most. supplies_set goal supplies k v x kind;
   supplies_small = All-set (IsWithin SUPPLY_LIMIT) supplies k x within sound.supplies_small;
   lists = sound.lists;
-  arcs_fit = sound.arcs_fit;
+  rows_fit = sound.rows_fit;
   ends_fit = sound.ends_fit;
 }

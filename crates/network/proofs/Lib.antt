@@ -16,6 +16,7 @@ pub mod Surplus
 pub mod EndLinks
 pub mod EndWalk
 pub mod Growth
+pub mod Rows
 pub mod Opening
 pub mod EditedLemmas
 pub mod EditedShape

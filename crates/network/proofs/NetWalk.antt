@@ -1,7 +1,7 @@
 -- The walk over the ends of a node, which adds up its net.
 use Rattle.std.proofs.Common.{◌≡◌, ℕ, suc, ◌+◌, ◌-◌, ◌*◌, ◌/◌, ◌%◌, ◌<◌, ◌≤◌, ◌==◌, ℤ, pos, neg_ℤ, ◌+ℤ◌, Bool, true, false, if◌then◌else◌, List, [], ◌∷◌, length, slice_index_or, Option, Some, None, All, unsigned_abs, FitsSigned, to_z, of_z, ap, ◌∙◌, arith}
 use Rattle.std.proofs.lemmas.Int.{ints, to_z-of_z, fits_signed_from_abs}
-use Rattle.std.proofs.lemmas.List.{get_or_default, get_or_past}
+use Rattle.std.proofs.lemmas.List.{get_or_past}
 use Rattle.std.specs.List.{AllByRecursion}
 use Rattle.std.proofs.lemmas.Bool.{cases_lt}
 use Rattle.std.proofs.Math.Logic.{⊎_elim}
@@ -43,22 +43,22 @@ pub record IsNetSoFar (arcs : List ArcRow) (flow : List ℤ) (v : ℕ) (sum : �
   pub end : IsEndAt arcs v current
 
 module _ (nodes : ℕ) (arcs : List ArcRow) (first next : List (Option ℕ)) (lists : AreEndLists nodes arcs first next) (flow : List ℤ) (long : length arcs ≡ length flow) (v : ℕ) where
-  pub walk_starts : 1 ≤ v → v ≤ nodes → (current : Option ℕ) → current ≡ slice_index_or first (v - 1) current → IsNetSoFar arcs flow v (pos 0) current
+  pub walk_starts : 1 ≤ v → v ≤ nodes → (current : Option ℕ) → current ≡ slice_index_or first (v - 1) None → IsNetSoFar arcs flow v (pos 0) current
   walk_starts low high current is =
       let known : current ≡ last_end_below arcs v (2 * length arcs) =
-      is ∙ get_or_default first (v - 1) current None (omega (arith, lists.first_len)) ∙ lists.first_is v low high in
+      is ∙ lists.first_is v low high in
       let below = walk_below arcs flow v (2 * length arcs) (omega arith) in
       let all = ends_sum-net arcs flow v long in
       let same = below.0 in
       rw known (record { whole = omega (arith, linear); size = omega (arith, below.2); end = below.1 })
 
   module _ (few : length arcs ≤ ARC_LIMIT) (small : All (λ x. unsigned_abs x ≤ CAP_LIMIT) flow) (sum term : ℤ) (end : ℕ) where
-    pub walk_step : (current : Option ℕ) → IsNetSoFar arcs flow v sum (Some end) → term ≡ end_flow flow end → current ≡ slice_index_or next end current
+    pub walk_step : (current : Option ℕ) → IsNetSoFar arcs flow v sum (Some end) → term ≡ end_flow flow end → current ≡ slice_index_or next end None
         → FitsSigned w64 (sum +ℤ to_z w64 (of_z w64 term)) × IsNetSoFar arcs flow v (to_z w64 (of_z w64 (sum +ℤ to_z w64 (of_z w64 term)))) current × (ends_left current < suc end)
     walk_step current so_far t is =
         let inside = so_far.end.0 in
         let known : current ≡ last_end_below arcs v end =
-        is ∙ get_or_default next end current None (omega (arith, lists.next_len)) ∙ lists.next_is end inside ∙ ap (λ (u : ℕ). last_end_below arcs u end) so_far.end.1 in
+        is ∙ lists.next_is end inside ∙ ap (λ (u : ℕ). last_end_below arcs u end) so_far.end.1 in
         let below = walk_below arcs flow v end (omega arith) in
         let same = below.0 in
         let whole = so_far.whole in

@@ -4,5 +4,6 @@ pub mod Start
 pub mod Refusal
 pub mod Edited
 pub mod Ends
+pub mod Rows
 pub mod Representation
 pub mod Cut

@@ -6,7 +6,8 @@ ghost use Rattle.network.specs.Instance.{reduced, IsInner, IsBalancedAt, IsBalan
 use crate::bounds::{is_within_bounds, keeps_bounds};
 use crate::cost::total_cost;
 use crate::signs::{are_potentials, follows_sign, follows_signs};
-use crate::{CutForm, Goal, Network, RETURN_CAP};
+use crate::views::return_arc;
+use crate::{CutForm, Goal, Network};
 use dimacs_text::ArcRow;
 
 impl Network {
@@ -49,13 +50,7 @@ impl Network {
             (λ arc. IsNode (reduced self.now) arc.tail × IsNode (reduced self.now) arc.head) }
     {
         match self.goal {
-            Goal::GreatestFlow { source, sink } => Some(ArcRow {
-                tail: sink,
-                head: source,
-                low: 0,
-                cap: RETURN_CAP,
-                cost: -1,
-            }),
+            Goal::GreatestFlow { source, sink } => Some(return_arc(source, sink)),
             _ => None,
         }
     }
@@ -82,7 +77,7 @@ impl Network {
     {
         match self.goal {
             Goal::GreatestFlow { source, .. } => i128::from(self.net_at(flow, source)),
-            _ => total_cost(&self.arcs, flow),
+            _ => total_cost(self.numbered(), flow),
         }
     }
 
@@ -91,7 +86,7 @@ impl Network {
         ensures exact { IsTrue result ↔ IsLegal self.now flow.now }
         ensures bounds { IsTrue result → AllWithinBounds self.now.arcs flow.now }
     {
-        is_within_bounds(&self.arcs, flow) && self.is_balanced(flow)
+        is_within_bounds(self.numbered(), flow) && self.is_balanced(flow)
     }
 
     /// Do the potentials certify a flow that keeps the bounds?
@@ -103,7 +98,8 @@ impl Network {
         if !are_potentials(potentials) {
             return false;
         }
-        follows_signs(&self.arcs, flow, potentials) && self.is_return_certified(flow, potentials)
+        follows_signs(self.numbered(), flow, potentials)
+            && self.is_return_certified(flow, potentials)
     }
 }
 

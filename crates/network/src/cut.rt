@@ -78,7 +78,7 @@ impl Network {
         ensures value { result ≡ arcs_part form (is_marked cut.now) (reduced self.now).arcs }
         ensures small { unsigned_abs result ≤ 2 * CAP_LIMIT * ARC_LIMIT + unsigned_abs RETURN_CAP }
     {
-        let arcs = arcs_part(form, &self.arcs, cut);
+        let arcs = arcs_part(form, self.numbered(), cut);
         match self.return_arc() {
             Some(arc) => arcs + arc_part(form, &arc, cut),
             None => arcs,

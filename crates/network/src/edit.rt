@@ -1,40 +1,57 @@
 //! How an instance is made, and how it grows.
-ghost use Rattle.std.specs.Prelude.{◌≡◌, ◌+◌, ◌-◌, ◌<◌, ◌≤◌, [], All, IfOk, length, slice_index_or, vec_capacity, vec_len};
+ghost use Rattle.std.specs.Prelude.{◌≡◌, ◌+◌, ◌-◌, ◌*◌, ◌<◌, ◌≤◌, [], All, IfOk, length, slice_index_or, vec_capacity, vec_len};
 ghost use Rattle.network.specs.Ends.{AddsEnd, RemovesEnd};
 ghost use Rattle.dimacs_text.specs.Lawful.{IsLawfulRow, IsNode, IsWithin};
 ghost use Rattle.network.specs.Edited.{with_arc, with_last, with_node_supply};
 ghost use Rattle.network.specs.Instance.{ArcFits, at_node, kind_of};
-ghost use Rattle.network.specs.Representation.{instance_of, CanBegin};
+ghost use Rattle.network.specs.Representation.{ends_in, instance_of, return_rows, CanBegin};
 
+use crate::views::return_arc;
 use crate::{Goal, Network};
-use dimacs_text::{ArcRow, Kind, SUPPLY_LIMIT};
+use dimacs_text::{ARC_LIMIT, ArcRow, Kind, SUPPLY_LIMIT};
 use std::alloc::{AllocError, Global};
 
 /// Makes an end the greatest one of its node.
-fn link_end(first: &mut [Option<u32>], next: &mut Vec<Option<u32>>, node: u32, end: u32)
+fn link_end(first: &mut [u32], next: &mut Vec<u32>, node: u32, end: u32)
     requires node { (1 ≤ node) × (node ≤ length first.old) }
+    requires few { end < 2 * ARC_LIMIT }
     requires room { vec_len next.old < vec_capacity next.old }
-    ensures added { AddsEnd first.old next.old.items node end first.new next.new.items }
+    ensures added { AddsEnd (ends_in first.old) (ends_in next.old.items) node end
+        (ends_in first.new) (ends_in next.new.items) }
     ensures capacity { vec_capacity next.old ≤ vec_capacity next.new }
 {
     let before = first[node as usize - 1];
     let Ok(()) = next.push(before) else {
         unreachable!()
     };
-    first[node as usize - 1] = Some(end);
+    first[node as usize - 1] = end + 1;
 }
 
 /// Takes the greatest end of all off its node's list.
-fn unlink_end(first: &mut [Option<u32>], next: &mut Vec<Option<u32>>, node: u32)
+fn unlink_end(first: &mut [u32], next: &mut Vec<u32>, node: u32)
     requires node { (1 ≤ node) × (node ≤ length first.old) }
     requires some { 0 < vec_len next.old }
-    ensures removed { RemovesEnd first.old next.old.items node first.new next.new.items }
+    ensures removed { RemovesEnd (ends_in first.old) (ends_in next.old.items) node
+        (ends_in first.new) (ends_in next.new.items) }
     ensures capacity { vec_capacity next.old ≤ vec_capacity next.new }
 {
     let Some(before) = next.pop() else {
         unreachable!()
     };
     first[node as usize - 1] = before;
+}
+
+/// A table of rows with the return arc, where there is one, and with room for so many arcs.
+fn return_row(alloc: Global, goal: Goal, room: usize) -> Result<Vec<ArcRow>, AllocError>
+    requires { room ≤ ARC_LIMIT }
+    ensures rows { IfOk result (λ rows. rows.items ≡ return_rows goal) }
+    ensures room { IfOk result (λ rows. room + 1 ≤ vec_capacity rows) }
+{
+    let mut rows = Vec::with_capacity(alloc, room + 1)?;
+    if let Goal::GreatestFlow { source, sink } = goal {
+        rows.push(return_arc(source, sink))?;
+    }
+    Ok(rows)
 }
 
 impl Network {
@@ -49,14 +66,14 @@ impl Network {
         ensures { IfOk result
             (λ n. n ≡ instance_of (vec_len supplies) goal supplies.items [] room) }
     {
-        let arcs = Vec::with_capacity(alloc, room)?;
+        let rows = return_row(alloc, goal, room)?;
         let next = Vec::with_capacity(alloc, 2 * room)?;
-        let first = vec![in alloc; None; supplies.len()]?;
+        let first = vec![in alloc; 0; supplies.len()]?;
         Ok(Network {
             nodes: supplies.len() as u32,
             goal,
             supplies,
-            arcs,
+            rows,
             room,
             first,
             next,
@@ -70,10 +87,10 @@ impl Network {
         requires fits { ArcFits self.old.demand row }
         ensures { self.new ≡ with_last self.old row }
     {
-        let end = 2 * self.arcs.len() as u32;
+        let end = 2 * self.arcs();
         link_end(&mut self.first, &mut self.next, row.tail, end);
         link_end(&mut self.first, &mut self.next, row.head, end + 1);
-        let Ok(()) = self.arcs.push(row) else {
+        let Ok(()) = self.rows.push(row) else {
             unreachable!()
         };
     }
@@ -83,7 +100,7 @@ impl Network {
         requires { 0 < length self.old.arcs }
         ensures { self.old ≡ with_last self.new result }
     {
-        let Some(row) = self.arcs.pop() else {
+        let Some(row) = self.rows.pop() else {
             unreachable!()
         };
         unlink_end(&mut self.first, &mut self.next, row.head);
@@ -100,7 +117,8 @@ impl Network {
         requires fits { ArcFits self.old.demand row }
         ensures { self.new ≡ with_arc self.old k row }
     {
-        self.arcs[k as usize - 1] = row;
+        let place = self.goal.return_arcs() + (k as usize - 1);
+        self.rows[place] = row;
     }
 
     /// Changes what a node of a least-cost problem has to send out.

@@ -164,7 +164,7 @@ impl Network {
         if k == 0 {
             return None;
         }
-        self.arcs.get(k as usize - 1).copied()
+        self.numbered().get(k as usize - 1).copied()
     }
 
     /// Is it a node?
@@ -269,7 +269,7 @@ impl Network {
             → (result.0 ≡ arc_at after.arcs k) × (result.1 ≡ length after.arcs) }
     {
         let mut row = self.numbered_arc(k);
-        let mut arcs = self.arcs.len();
+        let mut arcs = self.numbered().len();
         for edit in edits {
             row = row_after(k, arcs, row, edit);
             arcs = count_after(arcs, edit);

@@ -16,7 +16,7 @@ mod views;
 
 ghost use Rattle.std.specs.Prelude.{vec_capacity};
 ghost use Rattle.network.specs.Instance.{Instance};
-ghost use Rattle.network.specs.Representation.{instance_of, IsSound};
+ghost use Rattle.network.specs.Representation.{arcs_in, ends_in, instance_of, IsSound};
 
 pub use check::{check_best, check_cut};
 use dimacs_text::ArcRow;
@@ -61,20 +61,21 @@ pub struct Network {
     goal: Goal,
     /// Those of the reduced instance, so that every kind is balanced alike.
     supplies: Vec<i64>,
-    arcs: Vec<ArcRow>,
+    /// Those of the reduced instance too: the return arc, where there is one, then the arcs.
+    rows: Vec<ArcRow>,
     /// How many arcs there may be; all room for them is reserved.
     room: usize,
-    /// The greatest end at each node.
-    first: Vec<Option<u32>>,
-    /// The greatest end below each end at its node.
-    next: Vec<Option<u32>>,
+    /// The greatest end at each node. An entry is the number of an end and 1, or 0 where there is none.
+    first: Vec<u32>,
+    /// The greatest end below each end at its node, in such entries.
+    next: Vec<u32>,
 }
 
 impl Model for Network {
     ghost Value = { Instance };
 
-    ghost view = { λ n. instance_of n.nodes n.goal n.supplies.items n.arcs.items n.room };
+    ghost view = { λ n. instance_of n.nodes n.goal n.supplies.items (arcs_in n.goal n.rows.items) n.room };
 
-    ghost invariant = { λ n. IsSound n.nodes n.goal n.supplies.items n.arcs.items n.room n.first.items n.next.items
-        (vec_capacity n.arcs) (vec_capacity n.next) };
+    ghost invariant = { λ n. IsSound n.nodes n.goal n.supplies.items n.rows.items n.room (ends_in n.first.items) (ends_in n.next.items)
+        (vec_capacity n.rows) (vec_capacity n.next) };
 }

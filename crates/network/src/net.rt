@@ -5,6 +5,7 @@ ghost use Rattle.dimacs_text.specs.declared.problem.TheConstants.{CAP_LIMIT};
 ghost use Rattle.network.specs.Ends.{end_flow, end_node, last_end_below, WalksEnds};
 ghost use Rattle.network.specs.Flow.{AllWithinBounds, IsNode, net};
 ghost use Rattle.network.specs.Instance.{reduced};
+ghost use Rattle.network.specs.Representation.{listed_end};
 
 use crate::Network;
 
@@ -18,6 +19,14 @@ fn end_flow(flow: &[i64], end: u32) -> i64
     if end % 2 == 0 { amount } else { -amount }
 }
 
+/// The end in an entry of a list.
+#[inline(always)]
+fn listed_end(entry: u32) -> Option<u32>
+    ensures { result ≡ listed_end entry }
+{
+    entry.checked_sub(1)
+}
+
 impl Network {
     /// The greatest end at a node, if there is one. With arcs counted from 0, end 2k is the tail of arc k and end
     /// 2k + 1 its head.
@@ -29,7 +38,7 @@ impl Network {
         if id == 0 || id > self.nodes {
             return None;
         }
-        self.first[id as usize - 1]
+        listed_end(self.first[id as usize - 1])
     }
 
     /// The greatest end below this one at its node, if there is one.
@@ -41,7 +50,7 @@ impl Network {
         if end as usize >= self.next.len() {
             return None;
         }
-        self.next[end as usize]
+        listed_end(self.next[end as usize])
     }
 
     /// The net outflow of a node: the flow on its arcs out less that on its arcs in; a self-loop adds 0. `flow` has one
@@ -52,10 +61,10 @@ impl Network {
         ensures { result ≡ net self.now.arcs flow.now id }
     {
         let mut sum = 0;
-        let mut current = self.first[id as usize - 1];
+        let mut current = listed_end(self.first[id as usize - 1]);
         while let Some(end) = current {
             sum += end_flow(flow, end);
-            current = self.next[end as usize];
+            current = listed_end(self.next[end as usize]);
         }
         sum
     }

@@ -1,5 +1,5 @@
 -- The walk over the network's lists of the ends at a node comes to each arc there.
-use Rattle.std.proofs.Common.{◌≡◌, ℕ, zero, suc, inl, inr, ◌+◌, ◌-◌, ◌*◌, ◌/◌, ◌<◌, ◌≤◌, Bool, List, [], ◌∷◌, ◌++◌, length, refl, sym, ap, subst, ◌∙◌, arith, cond, Some, None}
+use Rattle.std.proofs.Common.{◌≡◌, ℕ, zero, suc, inl, inr, ◌+◌, ◌-◌, ◌*◌, ◌/◌, ◌<◌, ◌≤◌, Bool, List, length, sym, ap, subst, ◌∙◌, arith, cond, Some, None}
 use Rattle.std.specs.Prelude.{IfSome, Option, SomeIff}
 use Rattle.std.proofs.lemmas.Bool.{cases_eq, cases_lt, eq-eqb, ne_eqb}
 use Rattle.dimacs_text.specs.declared.problem.ArcRow.{ArcRow}
@@ -7,6 +7,8 @@ use Rattle.network.specs.Ends.{end_node, last_end_below}
 use Rattle.network.specs.Flow.{IsNode}
 use Rattle.network.specs.Instance.{Demand, Supplies, Terminals, Sides, Instance, IsLawful, reduced, reduced_arcs}
 use Rattle.network.proofs.EndLemmas.{end_node-tail, end_node-head}
+use Rattle.network.proofs.Rows.{rows_counted}
+pub use Rattle.network.proofs.Rows.{rows_push}
 use Rattle.residual_graph.specs.declared.residual.Way.{Way}
 use Rattle.residual_graph.specs.declared.residual.Way.TheVariants.{Backward, Forward}
 use Rattle.residual_graph.specs.Graph.{AreRowsOf, GraphView}
@@ -66,16 +68,6 @@ rows_split (Supplies s) arcs row e = (omega arith, λ j. (let none : j + row ≡
 rows_split (Terminals source sink) arcs row e = (omega arith, λ j. (let one : j + row ≡ suc j = omega arith in ap (row_at (reduced_arcs (Terminals source sink) arcs)) one))
 rows_split (Sides marks) arcs row e = (omega arith, λ j. (let none : j + row ≡ j = omega arith in ap (row_at arcs) none))
 
-pub rows_push : (D : Demand) (xs : List ArcRow) (a : ArcRow) → reduced_arcs D xs ++ a ∷ [] ≡ reduced_arcs D (xs ++ a ∷ [])
-rows_push (Supplies s) xs a = refl
-rows_push (Terminals source sink) xs a = refl
-rows_push (Sides marks) xs a = refl
-
-arcs_fit : (D : Demand) (arcs : List ArcRow) → length arcs ≤ length (reduced_arcs D arcs)
-arcs_fit (Supplies s) arcs = omega arith
-arcs_fit (Terminals source sink) arcs = omega arith
-arcs_fit (Sides marks) arcs = omega arith
-
 -- ---- the walk
 
 pub end_in : (k n : ℕ) (way : Way) → k < n → end_number k way < 2 * n
@@ -87,7 +79,7 @@ module _ (g : GraphView) (is : AreRowsOf g.net g.rows) where
   row = length g.rows - length g.net.arcs
 
   pub split : row + length g.net.arcs ≡ length g.rows
-  split = omega (arith, arcs_fit g.net.demand g.net.arcs, ap (λ (r : List ArcRow). length r) is.rows_are)
+  split = omega (arith, rows_counted g.net.demand g.net.arcs, ap (λ (r : List ArcRow). length r) is.rows_are)
 
   split_is : (row ≤ 1) × ((j : ℕ) → row_at (reduced g.net).arcs (j + row) ≡ row_at g.net.arcs j)
   split_is = rows_split g.net.demand g.net.arcs row (split ∙ ap (λ (r : List ArcRow). length r) is.rows_are)

@@ -1,5 +1,5 @@
 -- The network in the forms that searches read.
-use Rattle.std.specs.Prelude.{◌≡◌, ℕ, ◌+◌, ◌≤◌, List}
+use Rattle.std.specs.Prelude.{◌≡◌, ℕ, ◌+◌, List}
 use Rattle.dimacs_text.specs.declared.problem.ArcRow.{ArcRow}
 use Rattle.network.specs.Instance.{Instance, IsLawful, reduced}
 
@@ -16,10 +16,9 @@ pub record AreRowsOf (I : Instance) (rows : List ArcRow) : Type 0 where
 pub record IsGraph (g : GraphView) : Type 0 where
   pub rows : AreRowsOf g.net g.rows
 
--- the same, with room for a row of each arc that may be added
-pub record HoldsGraph (g : GraphView) (capacity : ℕ) : Type 0 where
-  pub graph : IsGraph g
-  pub rows_fit : g.net.room + 1 ≤ capacity
+-- the graph of a network
+abbrev pub graph_of : Instance → GraphView
+graph_of I = record { net = I; rows = (reduced I).arcs }
 
 -- tables of nodes have an entry for each of its nodes, and entry 0
 abbrev pub HasEntries : ℕ → GraphView → Type 0

@@ -11,37 +11,33 @@ ghost use Rattle.residual_graph.specs.Residual.{IsPseudoflow, IsResidual, row_at
 ghost use Rattle.residual_graph.specs.Walk.{IsNextEnd, StandsAt, ends_before};
 
 use crate::residual::{ResidualArc, Way};
-use crate::rows::reduced_rows;
 use crate::star::{End, Star};
 use dimacs_text::ArcRow;
 use network::Network;
 use std::alloc::{AllocError, Global};
 use std::marker::Model;
 
-/// A network, the arcs of its reduced instance, and a quick table of the ends at its nodes. What changes one of the three
-/// keeps them together.
+/// A network, and a quick table of the ends at its nodes. What changes one of the two keeps them together.
 #[derive(Drop)]
 pub struct Graph {
     net: Network,
     /// The ends at each node of the arcs that it began with.
     star: Star,
-    /// One entry an arc of the reduced instance: the return arc, where there is one, then the arcs of the network.
-    rows: Vec<ArcRow>,
 }
 
 impl Model for Graph {
-    ghost use Rattle.std.specs.Prelude.{vec_capacity};
-    ghost use Rattle.residual_graph.specs.Graph.{GraphView, HoldsGraph};
+    ghost use Rattle.network.specs.Instance.{IsLawful};
+    ghost use Rattle.residual_graph.specs.Graph.{GraphView, graph_of};
 
     ghost Value = { GraphView };
 
-    ghost view = { λ g. record { net = g.net; rows = g.rows.items } };
+    ghost view = { λ g. graph_of g.net };
 
-    ghost invariant = { λ g. HoldsGraph (record { net = g.net; rows = g.rows.items }) (vec_capacity g.rows) };
+    ghost invariant = { λ g. IsLawful g.net };
 }
 
 impl Graph {
-    /// The graph of a network, with room for all arcs that may be added.
+    /// The graph of a network.
     ///
     /// # Errors
     /// Memory for a table was refused.
@@ -49,9 +45,8 @@ impl Graph {
         ensures net { IfOk result (λ g. g.net ≡ net) }
         ensures graph { IfOk result IsGraph }
     {
-        let rows = reduced_rows(alloc, &net)?;
-        let star = Star::new(alloc, net.nodes() as usize + 1, &rows)?;
-        Ok(Graph { net, star, rows })
+        let star = Star::new(alloc, net.nodes() as usize + 1, net.rows())?;
+        Ok(Graph { net, star })
     }
 
     /// The network.
@@ -67,14 +62,14 @@ impl Graph {
     pub fn rows(&self) -> &[ArcRow]
         ensures { result.now ≡ self.now.rows }
     {
-        &self.rows
+        self.net.rows()
     }
 
     /// The row of the first arc of the network: how many rows stand before it.
     pub fn first_row(&self) -> usize
         ensures { result + length self.now.net.arcs ≡ length self.now.rows }
     {
-        self.rows.len() - self.net.arcs() as usize
+        self.net.return_arcs()
     }
 
     /// How many ends the rows have that the star covers.
@@ -82,7 +77,7 @@ impl Graph {
     pub(crate) fn covered(&self) -> u32
         ensures { result ≤ 2 * length self.now.rows }
     {
-        self.star.covered().min(2 * self.rows.len() as u32)
+        self.star.covered().min(2 * self.rows().len() as u32)
     }
 
     /// The ends in the star at a node.
@@ -96,7 +91,7 @@ impl Graph {
     fn return_ends(&self) -> u32
         ensures { result ≡ ends_before self.now }
     {
-        2 * (self.rows.len() as u32 - self.net.arcs())
+        2 * self.net.return_arcs() as u32
     }
 
     /// The end at which the walk over the ends at a node begins: it goes from the greatest down. End 2k is the tail of the arc
@@ -138,10 +133,9 @@ impl Graph {
         ensures one_a_row { length self.new.rows ≡ length self.old.rows }
         ensures graph { IsGraph self.new }
     {
-        let place = self.first_row() + (k as usize - 1);
+        let place = self.net.return_arcs() + (k as usize - 1);
         self.star.set_cost(2 * place as u32, &row);
         self.net.set_row(k, row);
-        self.rows[place] = row;
     }
 
     /// Changes what a node of a least-cost problem has to send out.
@@ -166,9 +160,6 @@ impl Graph {
         ensures graph { IsGraph self.new }
     {
         self.net.push_arc(row);
-        let Ok(()) = self.rows.push(row) else {
-            unreachable!()
-        };
     }
 
     /// Takes the last arc off.
@@ -179,8 +170,8 @@ impl Graph {
         ensures graph { IsGraph self.new }
     {
         let row = self.net.pop_arc();
-        let _ = self.rows.pop();
-        self.star.keep(2 * self.rows.len() as u32);
+        let rows = self.net.rows().len() as u32;
+        self.star.keep(2 * rows);
         row
     }
 
@@ -189,7 +180,7 @@ impl Graph {
         requires { k < length self.now.rows }
         ensures { result ≡ row_at self.now.rows k }
     {
-        self.rows[k]
+        self.rows()[k]
     }
 
     /// Whether this residual arc is there under the flow.
@@ -199,7 +190,7 @@ impl Graph {
         ensures { IsTrue result ↔ IsResidual self.now.rows flow.now arc.arc arc.way }
     {
         let k = arc.arc as usize;
-        arc.way.room(&self.rows[k], flow[k]) > 0
+        arc.way.room(&self.rows()[k], flow[k]) > 0
     }
 
     /// The node from which the residual arc in this way along the arc in row `k` leads.
@@ -207,7 +198,7 @@ impl Graph {
         requires { k < length self.now.rows }
         ensures { result ≡ start_at self.now.rows k way }
     {
-        way.start(&self.rows[k]) as usize
+        way.start(&self.rows()[k]) as usize
     }
 
     /// The node to which the residual arc in this way along the arc in row `k` leads.
@@ -215,6 +206,6 @@ impl Graph {
         requires { k < length self.now.rows }
         ensures { result ≡ end_at self.now.rows k way }
     {
-        way.end(&self.rows[k]) as usize
+        way.end(&self.rows()[k]) as usize
     }
 }

@@ -8,7 +8,6 @@
 mod graph;
 mod residual;
 mod residual_network;
-mod rows;
 mod side;
 mod star;
 mod walk;
