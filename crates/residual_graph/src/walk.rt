@@ -3,7 +3,7 @@
 //! Proved is that it ends, and that the arcs and the nodes which it names are there. Nothing is proved of what it comes to:
 //! who takes an answer that was found by it tests that.
 
-ghost use Rattle.std.specs.Prelude.{◌≡◌, ◌/◌, ◌<◌, length, IfSome, Some};
+ghost use Rattle.std.specs.Prelude.{◌≡◌, ◌*◌, ◌/◌, ◌<◌, length, IfSome, Some};
 ghost use Rattle.residual_graph.specs.Walk.{IsWithin};
 
 use crate::graph::Graph;
@@ -46,7 +46,7 @@ impl<'a> Walk<'a> {
         let covered = graph.covered();
         Walk {
             graph,
-            added: if_added(graph.first_end(node), covered),
+            added: first_added(graph, node, covered),
             ends: graph.ends(node),
             place: 0,
             nodes: graph.network().nodes(),
@@ -77,6 +77,17 @@ impl<'a> Walk<'a> {
         }
         None
     }
+}
+
+/// The first end at a node that the star, which covers so many ends, has not. Where no arc was added, no list is read.
+#[inline(always)]
+fn first_added(graph: &Graph, node: u32, covered: u32) -> Option<u32>
+    ensures { IfSome result (λ end. end < 2 * length graph.now.rows) }
+{
+    if covered as usize / 2 >= graph.rows().len() {
+        return None;
+    }
+    if_added(graph.first_end(node), covered)
 }
 
 /// The end in the network's list where the star, which covers so many ends, has it not.
