@@ -12,17 +12,14 @@ use std::alloc::{AllocError, Global};
 use std::marker::Model;
 use two_sided::{FAR, NO_PLACE};
 
-/// What an arc that searches do not use adds to the length of a path, so that it is longer than any that is known. A
-/// test in its place is one that processors often predict wrongly: with it, proposals of plans and infeasible networks
-/// took up to a tenth longer.
-const BARRED: i64 = 4_200_000_000_000_000_000;
+/// What an arc that searches do not use adds to the length of a path, so that it is longer than `FAR` whatever the reduced
+/// cost of the arc is. A test in its place is one that processors often predict wrongly: with it, proposals of plans and
+/// infeasible networks took up to a tenth longer.
+const BARRED: i64 = 4_400_000_000_000_000_000;
 
 /// A search for some goals first takes paths up to so many times as long as the search before went: so it lines up fewer
 /// nodes that it does not settle. With 4 more searches had to look again, with 16 more nodes were lined up.
 const WIDER: i64 = 8;
-
-/// Longer than any path.
-const UNLIMITED: i64 = 2_000_000_000_000_000_000;
 
 /// A search, and the walks after it. It is seen as the number of entries that a table of nodes has.
 #[derive(Drop)]
@@ -134,7 +131,7 @@ impl Search {
         ensures { self.new ≡ self.old }
     {
         let limit = limit_after(self.last, most);
-        let mut limited = limit < UNLIMITED;
+        let mut limited = limit < FAR;
         let goals = self.begin::<AHEAD>(proposal, limit).min(most);
         if goals == 0 {
             return None;
@@ -443,9 +440,9 @@ fn reach_over<const AHEAD: bool>(reach: i64, link: &Link, is_open: bool) -> i64 
 /// Up to which length a search for so many goals takes paths at first, after one that went so far.
 fn limit_after(length: i64, most: usize) -> i64 {
     if length > 0 && most < usize::MAX {
-        length.saturating_mul(WIDER).min(UNLIMITED)
+        length.saturating_mul(WIDER).min(FAR)
     } else {
-        UNLIMITED
+        FAR
     }
 }
 
