@@ -71,7 +71,7 @@ impl Search {
             let next = if proposal.is_root::<AHEAD>(u) {
                 self.push::<AHEAD>(proposal, t, u)
             } else if let Some(step) = self.step_back::<AHEAD>(proposal, u) {
-                self.walk_on::<AHEAD>(proposal, step);
+                self.walk_on(u, step);
                 Some(step.other)
             } else {
                 self.turn_back::<AHEAD>(proposal, u, renewals)
@@ -105,17 +105,15 @@ impl Search {
         self.records.set_state(t, State::Walked);
     }
 
-    /// Goes back along an arc.
+    /// Goes back from a node along an arc.
     #[inline(always)]
-    fn walk_on<const AHEAD: bool>(&mut self, proposal: &Proposal, step: Step)
-        requires proposal { proposal.now ≡ self.old }
-        requires node { step.other < self.old }
+    fn walk_on(&mut self, u: usize, step: Step)
+        requires node { u < self.old }
+        requires other { step.other < self.old }
         ensures { self.new ≡ self.old }
     {
-        if let Some(link) = proposal.link(step.place) {
-            self.walk.add(step.place, link.room_back::<AHEAD>());
-            self.records.set_state(step.other, State::Walked);
-        }
+        self.walk.add(u as u32, step.place, step.room);
+        self.records.set_state(step.other, State::Walked);
     }
 
     /// Steps back from a node from which the walk gets no further, and gives the node before it; where the walk began
@@ -133,7 +131,7 @@ impl Search {
         ensures node { IfSome result (λ v. v < self.old) }
     {
         let renewed = self.renew::<AHEAD>(proposal, u, renewals);
-        let before = self.leave_last::<AHEAD>(proposal);
+        let before = self.leave_last::<AHEAD>(proposal, u);
         if !renewed {
             self.records.set_state(u, State::Dead);
         }
@@ -192,7 +190,7 @@ impl Search {
             if leaving == Leaving::Filled && proposal.is_open(self.walk.room(i64::MAX)) {
                 break;
             }
-            let Some(before) = self.leave_last::<AHEAD>(proposal) else {
+            let Some(before) = self.leave_last::<AHEAD>(proposal, u) else {
                 break;
             };
             u = before;
@@ -200,23 +198,30 @@ impl Search {
         u
     }
 
-    /// Takes the last arc off the walk, with the node to which it led, and moves along it what was pushed. Gives the node from
-    /// which it led; none where the walk has no arc.
+    /// Takes the last arc off the walk, which stands at a node, and moves along it what was pushed. Gives the node that the walk
+    /// had come from; none where it has no arc.
     #[inline(always)]
-    fn leave_last<const AHEAD: bool>(&mut self, proposal: &mut Proposal) -> Option<usize>
-        requires { proposal.old ≡ self.old }
+    fn leave_last<const AHEAD: bool>(
+        &mut self,
+        proposal: &mut Proposal,
+        u: usize,
+    ) -> Option<usize>
+        requires proposal { proposal.old ≡ self.old }
+        requires node { u < self.old }
         ensures kept { self.new ≡ self.old }
         ensures proposal { proposal.new ≡ proposal.old }
         ensures node { IfSome result (λ v. v < self.old) }
     {
-        let (place, amount) = self.walk.take()?;
-        let link = proposal.link(place)?;
-        self.records.set_state(link.other as usize, State::Done);
-        if amount > 0 {
-            proposal.draw::<AHEAD>(place, amount);
+        let left = self.walk.take()?;
+        self.records.set_state(u, State::Done);
+        if left.amount > 0 {
+            proposal.draw::<AHEAD>(left.place, left.amount);
         }
-        let back = proposal.link(link.opposite)?;
-        Some(back.other as usize)
+        if left.from < self.entries() {
+            Some(left.from)
+        } else {
+            None
+        }
     }
 }
 

@@ -5,12 +5,21 @@ use std::alloc::{AllocError, Global};
 /// An arc of a walk.
 #[derive(Clone, Copy)]
 struct Hop {
-    /// Its place, at the node that the walk came from.
+    /// The node that the walk came from, and the arc's place there.
+    from: u32,
     place: u32,
     /// How much has been pushed from the walk's beginning on when this arc or one before it is filled.
     limit: i64,
     /// How much had been pushed when the walk took this arc.
     before: i64,
+}
+
+/// An arc that a walk left: the node that the walk had come from, the arc's place there, and how much was pushed along it.
+#[derive(Clone, Copy)]
+pub struct Left {
+    pub from: usize,
+    pub place: u32,
+    pub amount: i64,
 }
 
 /// Arcs one after the other, and how much was pushed along them. Flow is moved along an arc when it is taken off, so that a
@@ -38,16 +47,17 @@ impl Walk {
         self.pushed = 0;
     }
 
-    /// Goes on by an arc of this room.
+    /// Goes on from a node by an arc of this place and room.
     #[inline(always)]
-    pub fn add(&mut self, place: u32, room: i64) {
+    pub fn add(&mut self, from: u32, place: u32, room: i64) {
         if self.hops.len() < self.hops.capacity() {
             let hop = Hop {
+                from,
                 place,
                 limit: self.room(room).saturating_add(self.pushed),
                 before: self.pushed,
             };
-            let _added = self.hops.push(hop);
+            self.hops.push_reserved(hop);
         }
     }
 
@@ -65,10 +75,14 @@ impl Walk {
         self.pushed = self.pushed.saturating_add(amount);
     }
 
-    /// Takes the last arc off: gives its place, and how much was pushed along it.
+    /// Takes the last arc off.
     #[inline(always)]
-    pub fn take(&mut self) -> Option<(u32, i64)> {
+    pub fn take(&mut self) -> Option<Left> {
         let hop = self.hops.pop()?;
-        Some((hop.place, self.pushed.saturating_sub(hop.before)))
+        Some(Left {
+            from: hop.from as usize,
+            place: hop.place,
+            amount: self.pushed.saturating_sub(hop.before),
+        })
     }
 }
