@@ -201,11 +201,7 @@ impl Search {
     /// Takes the last arc off the walk, which stands at a node, and moves along it what was pushed. Gives the node that the walk
     /// had come from; none where it has no arc.
     #[inline(always)]
-    fn leave_last<const AHEAD: bool>(
-        &mut self,
-        proposal: &mut Proposal,
-        u: usize,
-    ) -> Option<usize>
+    fn leave_last<const AHEAD: bool>(&mut self, proposal: &mut Proposal, u: usize) -> Option<usize>
         requires proposal { proposal.old ≡ self.old }
         requires node { u < self.old }
         ensures kept { self.new ≡ self.old }

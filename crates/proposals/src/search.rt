@@ -17,9 +17,13 @@ use two_sided::{FAR, NO_PLACE};
 /// infeasible networks took up to a tenth longer.
 const BARRED: i64 = 4_400_000_000_000_000_000;
 
-/// A search for some goals first takes paths up to so many times as long as the search before went: so it lines up fewer
-/// nodes that it does not settle. With 4 more searches had to look again, with 16 more nodes were lined up.
-const WIDER: i64 = 8;
+/// A search for some goals first takes paths up to so many times as long as searches usually went of late: so it lines up
+/// fewer nodes that it does not settle. With 8 more nodes were lined up.
+const WIDER: i64 = 5;
+
+/// What is usual falls by one part in so many with each search that goes less far. By the length of the search before alone a
+/// fifth of the searches in two-way grids had to look again, since long and short ones take turns there.
+const FADING: i64 = 4;
 
 /// A search, and the walks after it. It is seen as the number of entries that a table of nodes has.
 #[derive(Drop)]
@@ -39,6 +43,8 @@ pub struct Search {
     pub(crate) apart: Vec<i64>,
     /// The key of the node taken out of the heap last.
     last: i64,
+    /// How far searches usually went of late.
+    usual: i64,
     /// How many nodes were settled since counting began.
     settled_nodes: u64,
     /// How many pushes were made.
@@ -89,6 +95,7 @@ impl Search {
             free: false,
             apart,
             last: 0,
+            usual: 0,
             settled_nodes: 0,
             pushes: 0,
         })
@@ -130,7 +137,8 @@ impl Search {
         requires { proposal.now ≡ self.old }
         ensures { self.new ≡ self.old }
     {
-        let limit = limit_after(self.last, most);
+        self.usual = usual_after(self.usual, self.last);
+        let limit = limit_for(most, self.usual);
         let mut limited = limit < FAR;
         let goals = self.begin::<AHEAD>(proposal, limit).min(most);
         if goals == 0 {
@@ -437,10 +445,15 @@ fn reach_over<const AHEAD: bool>(reach: i64, link: &Link, is_open: bool) -> i64 
     }
 }
 
-/// Up to which length a search for so many goals takes paths at first, after one that went so far.
-fn limit_after(length: i64, most: usize) -> i64 {
-    if length > 0 && most < usize::MAX {
-        length.saturating_mul(WIDER).min(FAR)
+/// How far searches usually go, after one that went so far.
+fn usual_after(usual: i64, length: i64) -> i64 {
+    usual.saturating_sub(usual / FADING).max(length)
+}
+
+/// Up to which length a search for so many goals takes paths at first, where searches usually go so far.
+fn limit_for(most: usize, usual: i64) -> i64 {
+    if usual > 0 && most < usize::MAX {
+        usual.saturating_mul(WIDER).min(FAR)
     } else {
         FAR
     }
