@@ -3,11 +3,11 @@
 ghost use Rattle.std.specs.Prelude.{◌≡◌, ◌<◌, ◌≤◌, ◌^◌, ℕ, IfSome, length};
 
 use crate::look::Step;
-use crate::record::State;
 use crate::records::Records;
 use crate::search::Search;
 use containers::Nodes;
 use relaxation::{Proposal, seen};
+use two_sided::State;
 
 impl Search {
     /// Lowers the potentials of the nodes that were settled, so that the paths to them are tight, and pushes from nodes in
@@ -17,7 +17,7 @@ impl Search {
         ensures kept { self.new ≡ self.old }
         ensures proposal { proposal.new ≡ proposal.old }
     {
-        tighten_all::<AHEAD>(&self.records, &self.settled, proposal, length);
+        tighten_all::<AHEAD>(&self.records, self.frontier.settled(), proposal, length);
         self.serve_all::<AHEAD>(proposal, renewals);
     }
 
@@ -28,24 +28,31 @@ impl Search {
         ensures kept { self.new ≡ self.old }
         ensures proposal { proposal.new ≡ proposal.old }
     {
+        self.frontier.forget_walks();
         self.free = true;
         self.serve_all::<AHEAD>(proposal, 0);
         self.free = false;
     }
 
-    /// Pushes from nodes in excess to each node in deficit that was settled.
+    /// Pushes from nodes in excess to each node in deficit that was looked for and settled. To more of them, which the search
+    /// came upon at its end, most walks are in vain: they took three times as long in Machol and Wien's assignment.
     fn serve_all<const AHEAD: bool>(&mut self, proposal: &mut Proposal, renewals: u8)
         requires { proposal.old ≡ self.old }
         ensures kept { self.new ≡ self.old }
         ensures proposal { proposal.new ≡ proposal.old }
     {
-        begin_walks_at(&mut self.records, &self.settled);
+        begin_walks_at(&mut self.records, self.frontier.settled());
+        let mut left = self.goals;
         for k in 0..self.entries() {
-            let Some(t) = self.settled_at(k) else {
+            let Some(t) = self.frontier.settled().at(k) else {
                 return;
             };
-            if proposal.is_goal::<AHEAD>(t) && self.is_done(t) {
+            if proposal.is_goal::<AHEAD>(t) && self.frontier.state(t) == State::Settled {
                 self.serve::<AHEAD>(proposal, t, renewals);
+                left = left.saturating_sub(1);
+            }
+            if left == 0 {
+                return;
             }
         }
     }
@@ -55,7 +62,9 @@ impl Search {
         requires { proposal.old ≡ self.now }
         ensures { proposal.new ≡ proposal.old }
     {
-        lower_all::<AHEAD>(&self.settled, proposal, shift);
+        for v in self.frontier.settled().listed() {
+            let _lowered = proposal.lower::<AHEAD>(*v as usize, shift);
+        }
     }
 
     /// Walks back from a node in deficit to nodes in excess and pushes along the walks, until nothing lacks or no walk is left.
@@ -65,7 +74,8 @@ impl Search {
         ensures kept { self.new ≡ self.old }
         ensures proposal { proposal.new ≡ proposal.old }
     {
-        self.begin_walk(t);
+        self.walk.clear();
+        self.frontier.set_state(t, State::Walked);
         let mut u = t;
         for _ in 0..fuel(proposal) {
             let next = if proposal.is_root::<AHEAD>(u) {
@@ -84,27 +94,6 @@ impl Search {
         let _begin = self.leave::<AHEAD>(proposal, u, Leaving::All);
     }
 
-    pub(crate) fn settled_at(&self, k: usize) -> Option<usize>
-        ensures { IfSome result (λ v. v < self.now) }
-    {
-        self.settled.at(k)
-    }
-
-    fn is_done(&self, v: usize) -> bool
-        requires { v < self.now }
-    {
-        self.records.state(v) == State::Done
-    }
-
-    /// Begins a walk at a node.
-    fn begin_walk(&mut self, t: usize)
-        requires { t < self.old }
-        ensures { self.new ≡ self.old }
-    {
-        self.walk.clear();
-        self.records.set_state(t, State::Walked);
-    }
-
     /// Goes back from a node along an arc.
     #[inline(always)]
     fn walk_on(&mut self, u: usize, step: Step)
@@ -113,7 +102,7 @@ impl Search {
         ensures { self.new ≡ self.old }
     {
         self.walk.add(u as u32, step.place, step.room);
-        self.records.set_state(step.other, State::Walked);
+        self.frontier.set_state(step.other, State::Walked);
     }
 
     /// Steps back from a node from which the walk gets no further, and gives the node before it; where the walk began
@@ -133,7 +122,7 @@ impl Search {
         let renewed = self.renew::<AHEAD>(proposal, u, renewals);
         let before = self.leave_last::<AHEAD>(proposal, u);
         if !renewed {
-            self.records.set_state(u, State::Dead);
+            self.frontier.set_state(u, State::Dead);
         }
         match before {
             Some(v) => {
@@ -166,7 +155,7 @@ impl Search {
         proposal.carry::<AHEAD>(s, t, amount);
         self.walk.push(amount);
         if !proposal.is_goal::<AHEAD>(t) {
-            self.records.set_state(t, State::Done);
+            self.frontier.set_state(t, State::Settled);
             return None;
         }
         Some(self.leave::<AHEAD>(proposal, s, Leaving::Filled))
@@ -209,7 +198,7 @@ impl Search {
         ensures node { IfSome result (λ v. v < self.old) }
     {
         let left = self.walk.take()?;
-        self.records.set_state(u, State::Done);
+        self.frontier.set_state(u, State::Settled);
         if left.amount > 0 {
             proposal.draw::<AHEAD>(left.place, left.amount);
         }
@@ -256,16 +245,6 @@ fn tighten_all<const AHEAD: bool>(
         let key = records.reach(v).saturating_sub(potential);
         let shift = length.saturating_sub(key);
         let _lowered = proposal.lower::<AHEAD>(v, shift);
-    }
-}
-
-/// Lowers the potentials of these nodes by the same amount.
-fn lower_all<const AHEAD: bool>(settled: &Nodes, proposal: &mut Proposal, shift: i64)
-    requires { settled.now ≡ proposal.old }
-    ensures { proposal.new ≡ proposal.old }
-{
-    for v in settled.listed() {
-        let _lowered = proposal.lower::<AHEAD>(*v as usize, shift);
     }
 }
 

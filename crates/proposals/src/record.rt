@@ -2,21 +2,6 @@
 
 use two_sided::NO_PLACE;
 
-/// How far a search or a walk has come with a node.
-#[derive(Clone, Copy, PartialEq, Eq)]
-pub enum State {
-    /// No path to it is known.
-    New,
-    /// It waits with the best path so far.
-    Open,
-    /// Its shortest path is known.
-    Done,
-    /// It is on the walk.
-    Walked,
-    /// No walk gets on from it.
-    Dead,
-}
-
 /// What a search and the walks after it know of a node.
 #[derive(Clone, Copy)]
 pub struct Record {
@@ -26,7 +11,6 @@ pub struct Record {
     pub parent: u32,
     /// How many of the node's ends walks have done with.
     pub current: u32,
-    pub state: State,
     /// How often it got a new level.
     pub renewed: u8,
     /// A search found it out of reach of all nodes on the other side.
@@ -39,7 +23,6 @@ impl Record {
         depth: 0,
         parent: NO_PLACE,
         current: 0,
-        state: State::New,
         renewed: 0,
         gone: false,
     };

@@ -2,7 +2,7 @@
 
 ghost use Rattle.std.specs.Prelude.{◌≡◌, ◌<◌, ℕ, IfOk, length};
 
-use crate::record::{Record, State};
+use crate::record::Record;
 use std::alloc::{AllocError, Global};
 use std::marker::Model;
 use two_sided::{FAR, NO_PLACE};
@@ -55,34 +55,12 @@ impl Records {
         self.table[v]
     }
 
-    #[inline(always)]
-    pub fn state(&self, v: usize) -> State
-        requires { v < self.now }
-    {
-        self.table[v].state
-    }
-
     /// How far the best path to a node reaches so far.
     #[inline(always)]
     pub fn reach(&self, v: usize) -> i64
         requires { v < self.now }
     {
         self.reaches[v]
-    }
-
-    /// Whether the shortest path to a node is not known yet.
-    #[inline(always)]
-    pub fn waits(&self, v: usize) -> bool
-        requires { v < self.now }
-    {
-        self.table[v].state == State::New || self.table[v].state == State::Open
-    }
-
-    #[inline(always)]
-    pub fn depth(&self, v: usize) -> u32
-        requires { v < self.now }
-    {
-        self.table[v].depth
     }
 
     #[inline(always)]
@@ -102,7 +80,6 @@ impl Records {
         let record = &mut self.table[v];
         record.depth = depth;
         record.parent = parent;
-        record.state = State::Open;
     }
 
     /// Lets only paths to a node be written down that reach less far.
@@ -114,22 +91,6 @@ impl Records {
         self.reaches[v] = reach;
     }
 
-    /// Forgets the path to a node.
-    pub fn forget(&mut self, v: usize)
-        requires { v < self.old }
-        ensures { self.new ≡ self.old }
-    {
-        self.table[v].state = State::New;
-    }
-
-    #[inline(always)]
-    pub fn set_state(&mut self, v: usize, state: State)
-        requires { v < self.old }
-        ensures { self.new ≡ self.old }
-    {
-        self.table[v].state = state;
-    }
-
     /// Lets walks begin anew at a node that is settled.
     pub fn begin_walks(&mut self, v: usize)
         requires { v < self.old }
@@ -137,7 +98,6 @@ impl Records {
     {
         self.table[v].current = 0;
         self.table[v].renewed = 0;
-        self.table[v].state = State::Done;
     }
 
     /// Walks do not use the search's own arc to a node any more.
@@ -168,19 +128,11 @@ impl Records {
         self.table[v].renewed = self.table[v].renewed.saturating_add(1);
     }
 
-    /// Leaves a node out of all searches.
-    pub fn leave_out(&mut self, v: usize)
+    /// Leaves a node out of all searches, or takes it into them again.
+    pub fn set_gone(&mut self, v: usize, gone: bool)
         requires { v < self.old }
         ensures { self.new ≡ self.old }
     {
-        self.table[v].gone = true;
-    }
-
-    /// Takes a node into searches again.
-    pub fn call_back(&mut self, v: usize)
-        requires { v < self.old }
-        ensures { self.new ≡ self.old }
-    {
-        self.table[v].gone = false;
+        self.table[v].gone = gone;
     }
 }

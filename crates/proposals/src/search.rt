@@ -3,14 +3,13 @@
 ghost use Rattle.std.specs.Prelude.{◌≡◌, ◌<◌, ◌≤◌, ◌^◌, ℕ, IfOk, IfSome, length};
 ghost use Rattle.relaxation.specs.Links.{LeadTo};
 
-use crate::record::State;
 use crate::records::Records;
 use crate::walk::Walk;
-use containers::{Heap, Nodes, both};
+use containers::{Nodes, both};
 use relaxation::{Link, Proposal, seen};
 use std::alloc::{AllocError, Global};
 use std::marker::Model;
-use two_sided::{FAR, NO_PLACE};
+use two_sided::{FAR, Frontier, NO_PLACE, State};
 
 /// What an arc that searches do not use adds to the length of a path, so that it is longer than `FAR` whatever the reduced
 /// cost of the arc is. A test in its place is one that processors often predict wrongly: with it, proposals of plans and
@@ -29,22 +28,23 @@ const FADING: i64 = 4;
 #[derive(Drop)]
 pub struct Search {
     pub(crate) records: Records,
-    heap: Heap,
-    /// Nodes whose key is that of the node taken out of the heap last.
-    pub(crate) queue: Nodes,
-    /// The nodes that are settled, in order.
-    pub(crate) settled: Nodes,
-    /// The nodes to which a path was found.
-    touched: Nodes,
+    pub(crate) frontier: Frontier,
+    /// The order in which potentials are first lowered, each node behind those that lead to it.
+    pub(crate) order: Nodes,
     pub(crate) walk: Walk,
     /// Walks go along any tight arc, and not only along those from the level below.
     pub(crate) free: bool,
     /// What is kept apart at each node while leftovers go home: nothing before there are some.
     pub(crate) apart: Vec<i64>,
-    /// The key of the node taken out of the heap last.
+    /// The key of the node that was settled last.
     last: i64,
     /// How far searches usually went of late.
     usual: i64,
+    /// Long paths are passed over so far.
+    is_limited: bool,
+    /// How many nodes in deficit are looked for, and how many of them are settled.
+    pub(crate) goals: usize,
+    got: usize,
     /// How many nodes were settled since counting began.
     settled_nodes: u64,
     /// How many pushes were made.
@@ -59,10 +59,8 @@ impl Model for Search {
     ghost view = { λ s. s.records };
 
     ghost invariant = { λ s. (s.records < 2 ^ 31)
-        × (s.heap ≡ s.records)
-        × (s.queue ≡ s.records)
-        × (s.settled ≡ s.records)
-        × (s.touched ≡ s.records) };
+        × (s.frontier ≡ s.records)
+        × (s.order ≡ s.records) };
 }
 
 impl Search {
@@ -74,28 +72,28 @@ impl Search {
         requires { entries < 2 ^ 31 }
         ensures { IfOk result (λ s. s ≡ entries) }
     {
-        let known = both(Records::new(alloc, entries), Heap::opened(alloc, entries));
-        let lists = both(Nodes::new(alloc, entries), Nodes::new(alloc, entries));
-        let touched = Nodes::new(alloc, entries);
-        let walk = both(
-            Walk::new(alloc, entries),
+        let known = both(
+            Records::new(alloc, entries),
+            Frontier::opened(alloc, entries),
+        );
+        let lists = both(
+            Nodes::new(alloc, entries),
             Vec::with_capacity(alloc, entries),
         );
-        let (((records, heap), (queue, settled)), (touched, (walk, apart))) = both(
-            both(known, lists),
-            both(touched, walk),
-        )?;
+        let walk = Walk::new(alloc, entries);
+        let ((records, frontier), ((order, apart), walk)) = both(known, both(lists, walk))?;
         Ok(Search {
             records,
-            heap,
-            queue,
-            settled,
-            touched,
+            frontier,
+            order,
             walk,
             free: false,
             apart,
             last: 0,
             usual: 0,
+            is_limited: false,
+            goals: 0,
+            got: 0,
             settled_nodes: 0,
             pushes: 0,
         })
@@ -115,12 +113,23 @@ impl Search {
 
     /// How many nodes the last search settled.
     pub fn width(&self) -> usize {
-        self.settled.listed().len()
+        self.frontier.settled().listed().len()
     }
 
     /// The most arcs on the path to a node that the search settled.
     pub fn levels(&self) -> u32 {
-        deepest(&self.records, &self.settled)
+        let mut deepest = 0;
+        for v in self.frontier.settled().listed() {
+            deepest = self.records.get(*v as usize).depth.max(deepest);
+        }
+        deepest
+    }
+
+    /// The number of entries of a table of nodes.
+    pub fn entries(&self) -> usize
+        ensures { result ≡ self.now }
+    {
+        self.records.entries()
     }
 
     /// Takes all nodes into searches again.
@@ -137,77 +146,48 @@ impl Search {
         requires { proposal.now ≡ self.old }
         ensures { self.new ≡ self.old }
     {
-        self.usual = usual_after(self.usual, self.last);
-        let limit = limit_for(most, self.usual);
-        let mut limited = limit < FAR;
-        let goals = self.begin::<AHEAD>(proposal, limit).min(most);
-        if goals == 0 {
-            return None;
-        }
-        let mut got: usize = 0;
-        for _ in 0..self.entries().saturating_mul(2).saturating_add(1) {
-            let Some(u) = self.next::<AHEAD>(proposal) else {
-                if !limited {
+        self.begin::<AHEAD>(proposal, most);
+        // Each node is taken once.
+        for _ in 0..=self.entries() {
+            if self.got >= self.goals {
+                break;
+            }
+            match self.take_nearest::<AHEAD>(proposal) {
+                Some(u) => self.look_on::<AHEAD>(proposal, u),
+                None if self.is_limited => self.take_long_paths::<AHEAD>(proposal),
+                None => {
+                    self.leave_out::<AHEAD>(proposal);
                     break;
                 }
-                limited = false;
-                self.take_long_paths::<AHEAD>(proposal);
-                continue;
-            };
-            if !self.waits(u) {
-                continue;
             }
-            self.settle(u);
-            if proposal.is_goal::<AHEAD>(u) && !self.is_gone(u) {
-                got = got.saturating_add(1);
-                if got >= goals {
-                    return Some(self.last);
-                }
-            }
-            self.look_on::<AHEAD>(proposal, u);
         }
-        self.leave_out::<AHEAD>(proposal);
-        if got > 0 { Some(self.last) } else { None }
+        self.settled_nodes = self.settled_nodes.saturating_add(self.width() as u64);
+        if self.got > 0 { Some(self.last) } else { None }
     }
 
-    /// Begins at all nodes in excess, with paths up to this length, and gives the number of nodes in deficit; none where no
-    /// node is in excess.
-    fn begin<const AHEAD: bool>(&mut self, proposal: &Proposal, limit: i64) -> usize
+    /// Begins at all nodes in excess, and looks for so many nodes in deficit, or for all; for none where no node is in excess.
+    fn begin<const AHEAD: bool>(&mut self, proposal: &Proposal, most: usize)
         requires { proposal.now ≡ self.old }
         ensures { self.new ≡ self.old }
     {
-        self.forget();
+        let limit = self.set_limit(most);
+        self.frontier.forget();
+        self.last = 0;
+        self.got = 0;
         let mut goals: usize = 0;
-        let mut some = false;
         for v in 0..self.entries() {
             let potential = seen::<AHEAD>(proposal.potential(v));
             self.records.limit(v, potential.wrapping_add(limit)); // far within the range
-            if self.is_gone(v) {
+            if self.records.is_gone(v) {
                 continue;
             }
             if proposal.is_root::<AHEAD>(v) {
                 self.begin_at(v, potential);
-                some = true;
             } else if proposal.is_goal::<AHEAD>(v) {
                 goals = goals.saturating_add(1);
             }
         }
-        if some { goals } else { 0 }
-    }
-
-    /// Takes long paths, too: looks once more at the nodes that are settled, whose arcs to others were passed over.
-    #[inline(never)] // seldom called, from a loop that is to stay short
-    fn take_long_paths<const AHEAD: bool>(&mut self, proposal: &Proposal)
-        requires { proposal.now ≡ self.old }
-        ensures { self.new ≡ self.old }
-    {
-        unlimit_all(&mut self.records);
-        for k in 0..self.entries() {
-            let Some(u) = self.settled_at(k) else {
-                return;
-            };
-            self.look_on::<AHEAD>(proposal, u);
-        }
+        self.goals = if self.width() > 0 { goals.min(most) } else { 0 };
     }
 
     /// Begins at a node of this potential.
@@ -216,95 +196,66 @@ impl Search {
         ensures { self.new ≡ self.old }
     {
         self.records.open(v, potential, 0, NO_PLACE);
-        self.touched.add(v);
-        self.queue.add(v);
+        self.frontier.settle(v);
     }
 
-    /// The number of entries of a table of nodes.
-    pub fn entries(&self) -> usize
-        ensures { result ≡ self.now }
-    {
-        self.records.entries()
-    }
-
-    #[inline(always)]
-    fn is_gone(&self, v: usize) -> bool
-        requires { v < self.now }
-    {
-        self.records.is_gone(v)
-    }
-
-    /// Whether the shortest path to a node is not known yet.
-    #[inline(always)]
-    fn waits(&self, v: usize) -> bool
-        requires { v < self.now }
-    {
-        self.records.waits(v)
-    }
-
-    #[inline(always)]
-    fn reach(&self, v: usize) -> i64
-        requires { v < self.now }
-    {
-        self.records.reach(v)
-    }
-
-    /// The length of the best path so far to a node.
-    #[inline(always)]
-    fn key<const AHEAD: bool>(&self, proposal: &Proposal, v: usize) -> i64
-        requires node { v < self.now }
-        requires proposal { proposal.now ≡ self.now }
-    {
-        self.reach(v)
-            .saturating_sub(seen::<AHEAD>(proposal.potential(v)))
-    }
-
-    #[inline(always)]
-    fn depth(&self, v: usize) -> u32
-        requires { v < self.now }
-    {
-        self.records.depth(v)
-    }
-
-    /// Forgets the search before.
-    pub(crate) fn forget(&mut self)
+    /// Sets up to which length a search for so many goals takes paths at first, and gives it.
+    fn set_limit(&mut self, most: usize) -> i64
         ensures { self.new ≡ self.old }
     {
-        forget_all(&mut self.records, &self.touched);
-        self.touched.clear();
-        self.settled.clear();
-        self.queue.clear();
-        self.heap.clear();
-        self.last = 0;
+        let faded = self.usual.saturating_sub(self.usual / FADING);
+        self.usual = faded.max(self.last);
+        self.is_limited = self.usual > 0 && most < usize::MAX;
+        if self.is_limited {
+            self.usual.saturating_mul(WIDER).min(FAR)
+        } else {
+            FAR
+        }
     }
 
-    /// Takes the node that comes next, which may be settled already.
+    /// Takes long paths, too: looks once more at the nodes that are settled, whose arcs to others were passed over.
+    #[inline(never)] // seldom called, from a loop that is to stay short
+    fn take_long_paths<const AHEAD: bool>(&mut self, proposal: &Proposal)
+        requires { proposal.now ≡ self.old }
+        ensures { self.new ≡ self.old }
+    {
+        self.is_limited = false;
+        unlimit_all(&mut self.records, &self.frontier);
+        for k in 0..self.entries() {
+            let Some(u) = self.frontier.settled().at(k) else {
+                return;
+            };
+            self.look_on::<AHEAD>(proposal, u);
+        }
+    }
+
+    /// Takes the nearest node that was not taken, whose shortest path is known by then.
     #[inline(always)]
-    fn next<const AHEAD: bool>(&mut self, proposal: &Proposal) -> Option<usize>
+    fn take_nearest<const AHEAD: bool>(&mut self, proposal: &Proposal) -> Option<usize>
         requires { proposal.now ≡ self.old }
         ensures kept { self.new ≡ self.old }
         ensures node { IfSome result (λ v. v < self.old) }
     {
-        if let Some(u) = self.queue.take() {
+        if let Some(u) = self.frontier.take() {
             return Some(u);
         }
-        let u = self.heap.take()?;
-        if self.records.state(u) == State::Open {
-            self.last = self.key::<AHEAD>(proposal, u);
-            self.queue.clear();
-        }
-        Some(u)
+        let u = self.frontier.settle_nearest(FAR)?;
+        let potential = seen::<AHEAD>(proposal.potential(u));
+        self.last = self.records.reach(u).saturating_sub(potential);
+        self.count::<AHEAD>(proposal, u);
+        self.frontier.take()
     }
 
-    /// Writes down that the shortest path to a node is known.
+    /// Counts a node that is settled, if it is one that is looked for.
     #[inline(always)]
-    fn settle(&mut self, u: usize)
-        requires { u < self.old }
+    fn count<const AHEAD: bool>(&mut self, proposal: &Proposal, v: usize)
+        requires proposal { proposal.now ≡ self.old }
+        requires node { v < self.old }
         ensures { self.new ≡ self.old }
     {
-        self.records.set_state(u, State::Done);
-        self.settled.add(u);
-        self.settled_nodes = self.settled_nodes.saturating_add(1);
+        if proposal.is_goal::<AHEAD>(v) && !self.records.is_gone(v) {
+            self.got = self.got.saturating_add(1);
+        }
     }
 
     /// Looks at the residual arcs that lead on from a node.
@@ -314,8 +265,8 @@ impl Search {
         requires node { u < self.old }
         ensures { self.new ≡ self.old }
     {
-        let reach = self.reach(u);
-        let depth = self.depth(u).saturating_add(1);
+        let reach = self.records.reach(u);
+        let depth = self.records.get(u).depth.saturating_add(1);
         let links = proposal.ends_at(u).links;
         let mut next = 0;
         while let Some(k) = nearer_from::<AHEAD>(&self.records, proposal, links, next, reach) {
@@ -337,67 +288,14 @@ impl Search {
         let v = link.other as usize;
         let potential = seen::<AHEAD>(proposal.potential(v));
         let reach = reach.max(self.last.wrapping_add(potential));
-        if reach >= self.reach(v) {
+        if reach >= self.records.reach(v) {
             return;
         }
-        let waited = self.records.state(v) == State::Open;
         self.records.open(v, reach, depth, link.opposite);
-        self.line_up(v, reach.wrapping_sub(potential), waited);
-    }
-
-    /// Lines a node up to be settled, which waited before or did not.
-    #[inline(always)]
-    fn line_up(&mut self, v: usize, key: i64, waited: bool)
-        requires { v < self.old }
-        ensures { self.new ≡ self.old }
-    {
-        if !waited {
-            self.touch(v);
-            if key != self.last {
-                self.wait(v, key);
-                return;
-            }
-        } else if key != self.last {
-            self.wait_less(v, key);
-            return;
+        let key = reach.wrapping_sub(potential);
+        if self.frontier.line_up(v, key, self.last) {
+            self.count::<AHEAD>(proposal, v);
         }
-        self.wait_no_more(v);
-    }
-
-    /// Lists a node as one to which a path was found.
-    #[inline(always)]
-    fn touch(&mut self, v: usize)
-        requires { v < self.old }
-        ensures { self.new ≡ self.old }
-    {
-        self.touched.add(v);
-    }
-
-    /// Puts a node into the heap.
-    #[inline(always)]
-    fn wait(&mut self, v: usize, key: i64)
-        requires { v < self.old }
-        ensures { self.new ≡ self.old }
-    {
-        self.heap.add(v, key);
-    }
-
-    /// Gives a node in the heap a lower key.
-    #[inline(always)]
-    fn wait_less(&mut self, v: usize, key: i64)
-        requires { v < self.old }
-        ensures { self.new ≡ self.old }
-    {
-        self.heap.lower(v, key);
-    }
-
-    /// Puts a node into the queue.
-    #[inline(always)]
-    fn wait_no_more(&mut self, v: usize)
-        requires { v < self.old }
-        ensures { self.new ≡ self.old }
-    {
-        self.queue.add(v);
     }
 
     /// Leaves out of further searches the nodes in deficit that were not settled.
@@ -405,7 +303,7 @@ impl Search {
         requires { proposal.now ≡ self.old }
         ensures { self.new ≡ self.old }
     {
-        leave_out_all::<AHEAD>(&mut self.records, proposal);
+        leave_out_all::<AHEAD>(&mut self.records, &self.frontier, proposal);
     }
 }
 
@@ -445,50 +343,16 @@ fn reach_over<const AHEAD: bool>(reach: i64, link: &Link, is_open: bool) -> i64 
     }
 }
 
-/// How far searches usually go, after one that went so far.
-fn usual_after(usual: i64, length: i64) -> i64 {
-    usual.saturating_sub(usual / FADING).max(length)
-}
-
-/// Up to which length a search for so many goals takes paths at first, where searches usually go so far.
-fn limit_for(most: usize, usual: i64) -> i64 {
-    if usual > 0 && most < usize::MAX {
-        usual.saturating_mul(WIDER).min(FAR)
-    } else {
-        FAR
-    }
-}
-
 /// Takes all paths to the nodes to which none is known.
-fn unlimit_all(records: &mut Records)
+fn unlimit_all(records: &mut Records, frontier: &Frontier)
+    requires { frontier.now ≡ records.old }
     ensures { records.new ≡ records.old }
 {
     for v in 0..records.entries() {
-        if records.state(v) == State::New {
+        if frontier.state(v) == State::New {
             records.limit(v, FAR);
         }
     }
-}
-
-/// Forgets the paths to these nodes.
-fn forget_all(records: &mut Records, touched: &Nodes)
-    requires { touched.now ≡ records.old }
-    ensures { records.new ≡ records.old }
-{
-    for v in touched.listed() {
-        records.forget(*v as usize);
-    }
-}
-
-/// The greatest depth of these nodes.
-fn deepest(records: &Records, settled: &Nodes) -> u32
-    requires { settled.now ≡ records.now }
-{
-    let mut deepest = 0;
-    for v in settled.listed() {
-        deepest = records.depth(*v as usize).max(deepest);
-    }
-    deepest
 }
 
 /// Takes all nodes into searches again.
@@ -496,18 +360,19 @@ fn call_back_all(records: &mut Records)
     ensures { records.new ≡ records.old }
 {
     for v in 0..records.entries() {
-        records.call_back(v);
+        records.set_gone(v, false);
     }
 }
 
 /// Leaves out of further searches the nodes in deficit that were not settled.
-fn leave_out_all<const AHEAD: bool>(records: &mut Records, proposal: &Proposal)
-    requires { proposal.now ≡ records.old }
+fn leave_out_all<const AHEAD: bool>(records: &mut Records, frontier: &Frontier, proposal: &Proposal)
+    requires frontier { frontier.now ≡ records.old }
+    requires proposal { proposal.now ≡ records.old }
     ensures { records.new ≡ records.old }
 {
     for v in 0..records.entries() {
-        if proposal.is_goal::<AHEAD>(v) && records.state(v) != State::Done {
-            records.leave_out(v);
+        if proposal.is_goal::<AHEAD>(v) && frontier.state(v) != State::Settled {
+            records.set_gone(v, true);
         }
     }
 }

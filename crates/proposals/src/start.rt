@@ -29,7 +29,7 @@ impl Search {
             return;
         }
         self.put_in_order(proposal);
-        if !lower_in_turn(&self.settled, proposal) {
+        if !lower_in_turn(&self.order, proposal) {
             raise_all(proposal);
             begin_stage(proposal, 1);
         }
@@ -40,14 +40,14 @@ impl Search {
         requires { proposal.now ≡ self.old }
         ensures { self.new ≡ self.old }
     {
-        self.forget();
-        count_all(&mut self.records, &mut self.queue, proposal);
+        self.order.clear();
+        count_all(&mut self.records, &mut self.order, proposal);
         for _ in 0..self.entries() {
             if !self.list_next(proposal) {
                 break;
             }
         }
-        list_others(&self.records, &mut self.settled);
+        list_others(&self.records, &mut self.order);
     }
 
     /// Lists the node that comes next, and says whether one waited.
@@ -55,11 +55,10 @@ impl Search {
         requires { proposal.now ≡ self.old }
         ensures { self.new ≡ self.old }
     {
-        let Some(u) = self.queue.take() else {
+        let Some(u) = self.order.take() else {
             return false;
         };
-        self.settled.add(u);
-        pass(&mut self.records, &mut self.queue, proposal, u);
+        pass(&mut self.records, &mut self.order, proposal, u);
         true
     }
 }

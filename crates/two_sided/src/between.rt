@@ -291,8 +291,12 @@ impl Between {
         self.sinks.clear();
         for block in 0..=proposal.entries() / BLOCK {
             let first = block.saturating_mul(BLOCK);
-            if !are_balanced(proposal, first) {
-                self.list_roots_from(proposal, first);
+            if are_balanced(proposal, first) {
+                continue;
+            }
+            let end = first.saturating_add(BLOCK).min(proposal.entries());
+            for v in first..end {
+                self.list_root(v, proposal.rest(v));
             }
         }
     }
@@ -315,17 +319,6 @@ impl Between {
     /// The nodes that were listed as in excess, and those as in deficit.
     pub fn listed_roots(&self) -> (&[u32], &[u32]) {
         (self.sources.listed(), self.sinks.listed())
-    }
-
-    /// Lists those of the nodes from one on that are in its block.
-    fn list_roots_from(&mut self, proposal: &Proposal, first: usize)
-        requires { proposal.now ≡ self.old }
-        ensures { self.new ≡ self.old }
-    {
-        let end = first.saturating_add(BLOCK).min(proposal.entries());
-        for v in first..end {
-            self.list_root(v, proposal.rest(v));
-        }
     }
 
     /// Lists a node at which so much lies, if it is out of balance.

@@ -5,9 +5,10 @@ ghost use Rattle.relaxation.specs.Limits.{IsWithin, rest_limit};
 ghost use Rattle.two_sided.specs.Keys.{key_limit};
 
 use crate::free::{FreeEnd, FreeEnds};
+use crate::frontier::{Frontier, State};
 use crate::late::Late;
 use crate::length::{FAR, NO_PLACE};
-use containers::{Heap, Nodes, Places, both};
+use containers::{Nodes, Places, both};
 use relaxation::Proposal;
 use std::alloc::{AllocError, Global};
 use std::marker::Model;
@@ -15,18 +16,7 @@ use std::marker::Model;
 /// So many free ends of a node are read at a time: the other side may come upon a node of many arcs before all are.
 const SOME_ENDS: usize = 32;
 
-/// How far a side has come with a node.
-#[derive(Clone, Copy, PartialEq, Eq)]
-enum State {
-    /// No path to it was found: its label is one of an earlier search.
-    Unknown,
-    /// A path was found.
-    Waiting,
-    /// No path is shorter.
-    Settled,
-}
-
-/// What a side knows of a node to which it found a path.
+/// What a side knows of a node to which it found a path; of another one the label is that of an earlier search.
 #[derive(Clone, Copy)]
 pub struct Label {
     /// The length of the best path so far.
@@ -104,9 +94,7 @@ impl Meeting {
 #[derive(Drop)]
 pub struct Front {
     labels: Vec<Label>,
-    /// A byte a node, so that a search reads labels only where it has to.
-    states: Vec<State>,
-    heap: Heap,
+    frontier: Frontier,
     /// How far beyond each node its other ends lead at least, by `walked` more: 0 where these were not read in this run, or
     /// changed since.
     beyond: Vec<i64>,
@@ -115,8 +103,6 @@ pub struct Front {
     /// Settled nodes whose other ends all lead far: these are read once the search has come half as far, which is
     /// seldom.
     late: Late,
-    /// The nodes that are settled, in order.
-    settled: Nodes,
     /// Of how many settled nodes the free ends were read; at the last one some may be left, from `free_end` on.
     spread: usize,
     /// The free end that is read next, if there are some left of a node.
@@ -143,12 +129,10 @@ impl Model for Front {
     ghost view = { λ f. length f.labels.items };
 
     ghost invariant = { λ f. (length f.labels.items < 2 ^ 31)
-        × (length f.states.items ≡ length f.labels.items)
-        × (f.heap ≡ length f.labels.items)
+        × (f.frontier ≡ length f.labels.items)
         × (f.late ≡ length f.labels.items)
         × (length f.beyond.items ≡ length f.labels.items)
-        × (f.margins ≡ length f.labels.items)
-        × (f.settled ≡ length f.labels.items) };
+        × (f.margins ≡ length f.labels.items) };
 }
 
 impl Front {
@@ -161,27 +145,20 @@ impl Front {
     {
         let labels = both(
             Vec::with_capacity(alloc, entries),
-            Vec::with_capacity(alloc, entries),
+            Frontier::new(alloc, entries),
         );
-        let heap = Heap::new(alloc, entries);
         let margins = both(
             Vec::with_capacity(alloc, entries),
             Nodes::reserve(alloc, entries),
         );
         let late = Late::new(alloc, entries);
-        let settled = Nodes::reserve(alloc, entries);
-        let (((labels, states), heap), ((beyond, margins), (late, settled))) = both(
-            both(labels, heap),
-            both(margins, both(late, settled)),
-        )?;
+        let ((labels, frontier), ((beyond, margins), late)) = both(labels, both(margins, late))?;
         Ok(Front {
             labels,
-            states,
-            heap,
+            frontier,
             beyond,
             margins,
             late,
-            settled,
             spread: 0,
             free_end: NO_PLACE,
             read: 0,
@@ -198,28 +175,22 @@ impl Front {
         requires { entries < 2 ^ 31 }
         ensures { IsTrue result → self.new ≡ entries }
     {
-        let room = self.labels.capacity().min(self.states.capacity());
-        if entries > room || entries > self.beyond.capacity() {
+        if entries > self.labels.capacity() || entries > self.beyond.capacity() {
             return false;
         }
-        if !self.heap.open(entries) || !self.late.open(entries) {
+        if !self.frontier.open(entries) || !self.late.open(entries) {
             self.labels.clear();
-            self.states.clear();
-            self.heap.close();
+            self.frontier.close();
             self.beyond.clear();
             self.margins.begin(0);
             self.late.close();
-            self.settled.begin(0);
             return false;
         }
         self.labels.clear();
-        self.states.clear();
         self.beyond.clear();
         let _filled = self.labels.resize(entries, Label::NONE);
-        let _filled = self.states.resize(entries, State::Unknown);
         let _filled = self.beyond.resize(entries, 0);
         self.margins.begin(entries);
-        self.settled.begin(entries);
         true
     }
 
@@ -228,12 +199,10 @@ impl Front {
         ensures { self.new ≡ 0 }
     {
         self.labels.clear();
-        self.states.clear();
-        self.heap.close();
+        self.frontier.close();
         self.beyond.clear();
         self.margins.begin(0);
         self.late.close();
-        self.settled.begin(0);
     }
 
     /// The number of entries of a table of nodes.
@@ -247,11 +216,8 @@ impl Front {
     pub fn forget(&mut self)
         ensures { self.new ≡ self.old }
     {
-        forget_settled(&mut self.states, &self.settled);
-        forget_waiting(&mut self.states, &self.heap);
-        self.heap.clear();
+        self.frontier.forget();
         self.late.clear();
-        self.settled.clear();
         self.spread = 0;
         self.free_end = NO_PLACE;
         self.read = 0;
@@ -286,20 +252,21 @@ impl Front {
     /// Whether a node waits whose free ends were not all read.
     #[inline(always)]
     pub fn has_waiting(&self) -> bool {
-        self.free_end != NO_PLACE || self.spread < self.settled.listed().len()
+        self.free_end != NO_PLACE || self.spread < self.settled().listed().len()
     }
 
     /// Of how many settled nodes the other ends were not read.
     #[inline(always)]
     pub fn unread(&self) -> usize {
-        self.settled.listed().len().saturating_sub(self.read)
+        self.settled().listed().len().saturating_sub(self.read)
     }
 
-    /// The settled nodes.
+    /// The settled nodes, in order.
+    #[inline(always)]
     pub fn settled(&self) -> &Nodes
         ensures { result.now ≡ self.now }
     {
-        &self.settled
+        self.frontier.settled()
     }
 
     /// The length of the best path to a node.
@@ -309,7 +276,7 @@ impl Front {
         ensures low { pos 0 ≤ℤ result }
         ensures high { result ≤ℤ pos key_limit }
     {
-        if self.states[v] == State::Unknown {
+        if self.frontier.state(v) == State::New {
             return FAR;
         }
         let label = self.labels[v];
@@ -347,9 +314,10 @@ impl Front {
         ensures kept { self.new ≡ self.old }
         ensures node { IfSome result (λ v. v < self.old) }
     {
-        let Some(u) = self.take_unread() else {
+        let Some(u) = self.frontier.take() else {
             return self.advance();
         };
+        self.read = self.read.saturating_add(1);
         if free.are_whole() && self.is_put_off(u) {
             None
         } else {
@@ -403,18 +371,6 @@ impl Front {
         self.walked = self.walked.saturating_add(length);
     }
 
-    /// Takes the next settled node whose other ends were not read.
-    #[inline(always)]
-    fn take_unread(&mut self) -> Option<usize>
-        ensures kept { self.new ≡ self.old }
-        ensures node { IfSome result (λ v. v < self.old) }
-    {
-        let next = self.settled.at(self.read);
-        let taken = if next.is_some() { 1 } else { 0 };
-        self.read = self.read.saturating_add(taken);
-        next
-    }
-
     /// Reads some ends of arcs that have room both ways, at the settled nodes in turn. To take a node counts as a read: it takes
     /// as long.
     fn read_free(&mut self, free: &FreeEnds, other: &Front, meeting: Meeting) -> Meeting
@@ -434,7 +390,7 @@ impl Front {
                     next = end.next;
                 }
                 None => {
-                    let Some(u) = self.settled.at(spread) else {
+                    let Some(u) = self.settled().at(spread) else {
                         break;
                     };
                     next = FreeEnds::first(u);
@@ -445,7 +401,7 @@ impl Front {
         }
         self.free_end = next;
         self.spread = spread;
-        self.count(reads);
+        self.reads = self.reads.saturating_add(reads as u64);
         meeting
     }
 
@@ -457,8 +413,8 @@ impl Front {
         ensures { self.new ≡ self.old }
     {
         let v = end.other as usize;
-        if v >= self.states.len()
-            || self.states[v] == State::Settled
+        if v >= self.labels.len()
+            || self.frontier.state(v) == State::Settled
             || meeting.length <= self.last
         {
             return meeting;
@@ -478,7 +434,7 @@ impl Front {
             parent,
             walked: false,
         };
-        self.settle(v);
+        self.frontier.settle(v);
     }
 
     /// Reads the ends at a settled node of the other residual arcs that lead on from it.
@@ -500,7 +456,7 @@ impl Front {
         let potential = proposal.potential(u);
         let are_read = free.are_whole();
         let links = proposal.ends_at(u).links;
-        self.count(links.len());
+        self.reads = self.reads.saturating_add(links.len() as u64);
         let mut least = FAR;
         for link in links {
             if link.room::<AHEAD>() > 0 && !(are_read && link.room_back::<AHEAD>() > 0) {
@@ -510,28 +466,11 @@ impl Front {
                 meeting = self.note(link.other as usize, label, other, meeting);
             }
         }
-        self.note_margin(u, least);
-        meeting
-    }
-
-    /// Writes down how far beyond a node its other ends lead at least.
-    #[inline(always)]
-    fn note_margin(&mut self, v: usize, least: i64)
-        requires { v < self.old }
-        ensures { self.new ≡ self.old }
-    {
-        if self.beyond[v] == 0 {
-            self.margins.add(v);
+        if self.beyond[u] == 0 {
+            self.margins.add(u);
         }
-        self.beyond[v] = least.saturating_add(self.walked);
-    }
-
-    /// Counts ends that are read.
-    #[inline(always)]
-    fn count(&mut self, ends: usize)
-        ensures { self.new ≡ self.old }
-    {
-        self.reads = self.reads.saturating_add(ends as u64);
+        self.beyond[u] = least.saturating_add(self.walked);
+        meeting
     }
 
     /// Writes down a path to a node, if it is the best so far and shorter than the way across; gives the shortest path
@@ -546,117 +485,29 @@ impl Front {
         if label.key >= known || label.key >= meeting.length {
             return meeting;
         }
-        self.write_label(v, label);
-        self.line_up(v, label.key, known);
+        self.labels[v] = label;
+        let _settled = self.frontier.line_up(v, label.key, self.last);
         meeting.or_over(v, label.key, other.key(v))
     }
 
-    /// Lines a node up by its new key; `known` is the length of the best path to it before.
-    #[inline(always)]
-    fn line_up(&mut self, v: usize, key: i64, known: i64)
-        requires { v < self.old }
-        ensures { self.new ≡ self.old }
-    {
-        if key == self.last {
-            self.settle(v);
-        } else if known == FAR {
-            self.wait(v, key);
-        } else {
-            self.wait_less(v, key);
-        }
-    }
-
-    /// Puts a node into the heap.
-    #[inline(always)]
-    fn wait(&mut self, v: usize, key: i64)
-        requires { v < self.old }
-        ensures { self.new ≡ self.old }
-    {
-        self.states[v] = State::Waiting;
-        self.heap.add(v, key);
-    }
-
-    /// Gives a node in the heap a lower key.
-    #[inline(always)]
-    fn wait_less(&mut self, v: usize, key: i64)
-        requires { v < self.old }
-        ensures { self.new ≡ self.old }
-    {
-        self.heap.lower(v, key);
-    }
-
-    /// Writes down a path to a node.
-    #[inline(always)]
-    fn write_label(&mut self, v: usize, label: Label)
-        requires { v < self.old }
-        ensures { self.new ≡ self.old }
-    {
-        self.labels[v] = label;
-    }
-
-    /// Writes down that no path to a node is shorter.
-    #[inline(always)]
-    fn settle(&mut self, v: usize)
-        requires { v < self.old }
-        ensures { self.new ≡ self.old }
-    {
-        self.states[v] = State::Settled;
-        self.settled.add(v);
-    }
-
     /// Settles the nearest node that is not settled, or gives a settled one of which the other ends are to be read before
-    /// that.
+    /// that; comes as far as either.
     fn advance(&mut self) -> Option<usize>
         ensures kept { self.new ≡ self.old }
         ensures node { IfSome result (λ v. v < self.old) }
     {
-        for _ in 0..=self.labels.len() {
-            if self.late.least() < self.heap.least() {
-                return self.take_late();
-            }
-            let Some(u) = self.take_nearest() else {
-                break;
-            };
-            if self.settle_next(u) {
-                return None;
-            }
-        }
-        self.spent = true;
-        None
-    }
-
-    /// Takes the node of which the other ends are to be read next, and comes as far as these lead.
-    fn take_late(&mut self) -> Option<usize>
-        ensures kept { self.new ≡ self.old }
-        ensures node { IfSome result (λ v. v < self.old) }
-    {
         let due = self.late.least();
+        if let Some(u) = self.frontier.settle_nearest(due) {
+            let label = self.labels[u];
+            self.last = label.key;
+            return None;
+        }
         if due > self.last && due < FAR {
             self.last = due;
         }
-        self.late.take()
-    }
-
-    /// Takes the nearest node out of the heap.
-    fn take_nearest(&mut self) -> Option<usize>
-        ensures kept { self.new ≡ self.old }
-        ensures node { IfSome result (λ v. v < self.old) }
-    {
-        self.heap.take()
-    }
-
-    /// Settles a node, and says whether it was not settled before.
-    fn settle_next(&mut self, u: usize) -> bool
-        requires { u < self.old }
-        ensures { self.new ≡ self.old }
-    {
-        if self.states[u] == State::Settled {
-            return false;
-        }
-        let label = self.labels[u];
-        self.last = label.key;
-        self.settle(u);
-        true
+        let late = self.late.take();
+        self.spent = late.is_none();
+        late
     }
 
     /// Lists the places of the arcs of the path to a node, from its end, and gives the node where it begins.
@@ -668,7 +519,7 @@ impl Front {
         path.clear();
         let mut u = v;
         for _ in 0..self.labels.len() {
-            let place = self.parent(u);
+            let place = self.labels[u].parent;
             let Some(link) = proposal.link(place) else {
                 break;
             };
@@ -687,18 +538,11 @@ impl Front {
         let mut u = v;
         for _ in 0..self.labels.len() {
             self.mark(u, walked);
-            let Some(link) = proposal.link(self.parent(u)) else {
+            let Some(link) = proposal.link(self.labels[u].parent) else {
                 break;
             };
             u = link.other as usize;
         }
-    }
-
-    /// The place, at a node, of the last arc of the best path to it.
-    fn parent(&self, v: usize) -> u32
-        requires { v < self.now }
-    {
-        self.labels[v].parent
     }
 
     /// Marks a node, or takes its mark off.
@@ -727,7 +571,7 @@ impl Front {
         let mut last = v;
         let mut u = v;
         for _ in 0..self.labels.len() {
-            let Some(link) = proposal.link(self.parent(u)) else {
+            let Some(link) = proposal.link(self.labels[u].parent) else {
                 break;
             };
             u = link.other as usize;
@@ -746,25 +590,5 @@ fn forget_beyond(beyond: &mut [i64], nodes: &Nodes)
 {
     for v in nodes.listed() {
         beyond[*v as usize] = 0;
-    }
-}
-
-/// Forgets the paths to the nodes that are settled.
-fn forget_settled(states: &mut [State], settled: &Nodes)
-    requires { settled.now ≡ length states.old }
-    ensures { length states.new ≡ length states.old }
-{
-    for v in settled.listed() {
-        states[*v as usize] = State::Unknown;
-    }
-}
-
-/// Forgets the paths to the nodes in a heap.
-fn forget_waiting(states: &mut [State], heap: &Heap)
-    requires { heap.now ≡ length states.old }
-    ensures { length states.new ≡ length states.old }
-{
-    for entry in heap.entries() {
-        states[entry.node as usize] = State::Unknown;
     }
 }
