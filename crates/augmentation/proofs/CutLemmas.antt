@@ -1,9 +1,10 @@
 -- Sums over sets of nodes, which set has the greatest surplus, the marked nodes by which a set grows, and those of a cut.
-use Rattle.std.proofs.Common.{◌≡◌, ℕ, zero, suc, ◌+◌, ◌<◌, ℤ, pos, negsuc, neg_ℤ, ◌-ℤ◌, ◌+ℤ◌, ◌≤ℤ◌, List, [], ◌∷◌, length, map, replicate, refl, sym, ap, subst, ◌∙◌, inl, inr, arith, Bool, true, false, cond, not, ◌&&◌, None}
+use Rattle.std.proofs.Common.{◌≡◌, ℕ, zero, suc, ◌<◌, ◌≤◌, ℤ, pos, negsuc, neg_ℤ, ◌-ℤ◌, ◌+ℤ◌, ◌≤ℤ◌, List, [], ◌∷◌, length, map, replicate, refl, sym, ap, subst, ◌∙◌, inl, inr, arith, Bool, true, false, cond, not, ◌&&◌, None}
 use Rattle.std.specs.Prelude.{◌<ℤ◌, Any, slice_set}
 use Rattle.std.proofs.lemmas.Int.{ints, by_lt_z}
 use Rattle.std.proofs.lemmas.Bool.{cases_eq, cases_lt, false≢true, true≢false, true_from_ne_false, false_from_ne_true}
 use Rattle.std.proofs.lemmas.List.Sums.{sum_by-cons}
+use Rattle.std.specs.List.{count_by}
 use Rattle.std.proofs.lemmas.List.{ext_get_or, length-map, length-set, get_or-set_other, get_or-set_same, get_or-replicate, get_or_past}
 use Rattle.dimacs_text.specs.declared.problem.ArcRow.{ArcRow}
 use Rattle.residual_graph.specs.declared.residual.Way.{Way}
@@ -21,8 +22,7 @@ use Rattle.shortest_paths.specs.declared.predecessor.Predecessor.{Predecessor}
 use Rattle.shortest_paths.specs.Predecessor.{predecessor_at}
 use Rattle.shortest_paths.specs.Search.{IsExhausted, IsReached}
 use Rattle.shortest_paths.proofs.SearchLemmas.{open_or_reached}
-use Rattle.augmentation.specs.Marked.{MarkedView}
-use Rattle.augmentation.specs.Cut.{sum_in, sum_leaving, sum_entering, surplus, shortfall, IsLeastSet, amount, near_at, far_at, far_of, IsFarIn, IsClosed, HoldsRoots, AreOnSide, IsParted, IsChosenSet, IsGrown, AreMarkedListed, AreNodesIn, AreTaken, HasNoDeficit, lack}
+use Rattle.augmentation.specs.Cut.{sum_in, sum_leaving, sum_entering, surplus, shortfall, IsLeastSet, amount, near_at, near_of, far_at, far_of, AreFarIn, IsClosed, IsClosedAlong, LeadsOut, way_from, HoldsRoots, AreOnSide, IsParted, IsChosenSet, IsGrown, AreMarkedListed, AreNodesIn, AreTaken, HasNoDeficit, lack}
 use Rattle.tracked.specs.Marks.{in_set}
 use Rattle.residual_graph.specs.Side.{IsRoot}
 use Rattle.tracked.specs.Touched.{NameChanges}
@@ -403,45 +403,119 @@ module _ (arcs : List ArcRow) (x e : List ℤ) (s : List Predecessor) (flow : Is
 
 -- ---- sets that grow
 
-pub IsGrown-refl : (side : Side) (arcs : List ArcRow) (x : List ℤ) (m : MarkedView) → IsGrown side arcs x m m
-IsGrown-refl side arcs x m = record { same_size = refl; kept = λ v h. h; least = λ other closed holds. holds; no_shorter = omega arith; same_before = λ j lt. refl }
+pub IsGrown-refl : (side : Side) (arcs : List ArcRow) (x : List ℤ) (set : List Bool) → IsGrown side arcs x set set
+IsGrown-refl side arcs x set = record { same_size = refl; kept = λ v h. h; least = λ other closed holds. holds }
 
-pub IsGrown-trans : {side : Side} {arcs : List ArcRow} {x : List ℤ} {old mid new : MarkedView} → IsGrown side arcs x old mid → IsGrown side arcs x mid new → IsGrown side arcs x old new
+pub IsGrown-trans : {side : Side} {arcs : List ArcRow} {x : List ℤ} {old mid new : List Bool} → IsGrown side arcs x old mid → IsGrown side arcs x mid new → IsGrown side arcs x old new
 IsGrown-trans one two = record {
   same_size = two.same_size ∙ one.same_size;
   kept = λ v h. two.kept v (one.kept v h);
   least = λ other closed holds. two.least other closed (one.least other closed holds);
-  no_shorter = omega (arith, one.no_shorter, two.no_shorter);
-  same_before = λ j lt. two.same_before j (omega (arith, lt, one.no_shorter)) ∙ one.same_before j lt;
 }
 
-pub far_of-in : (side : Side) (nodes : ℕ) (a : ArcRow) (way : Way) → IsRow nodes a → far_of side a way < nodes
+far_of-in : (side : Side) (nodes : ℕ) (a : ArcRow) (way : Way) → IsRow nodes a → far_of side a way < nodes
 far_of-in Ahead nodes a way row = end_of-in nodes a way row
 far_of-in Behind nodes a way row = start_of-in nodes a way row
 
--- each residual arc along an arc that leads on from node v has its far node in the set
-abbrev pub AreFarInAt : Side → List ArcRow → List ℤ → List Bool → ℕ → ℕ → Type 0
-AreFarInAt side arcs x set v k = (way : Way) → near_at side arcs k way ≡ v → IsFarIn side arcs x set k way
+-- a walk that came to each arc at a node of the set, of which none leads out, came to each residual arc that leads on from there
+pub far_all : (side : Side) (g : Graph) (x : List ℤ) (set : List Bool) (v : ℕ) → in_set set v ≡ true → HasCome g v None (IsClosedAlong side g.rows x set) → AreFarIn side g.rows x set v
+far_all Ahead g x set v marked come k way near residual = come.passed k way residual.is_arc near tt way residual (ap (in_set set) near ∙ marked)
+far_all Behind g x set v marked come k Forward near residual = come.passed k Backward residual.is_arc near tt Forward residual (ap (in_set set) near ∙ marked)
+far_all Behind g x set v marked come k Backward near residual = come.passed k Forward residual.is_arc near tt Backward residual (ap (in_set set) near ∙ marked)
 
--- a walk that came to each arc at the node came to each from which a residual arc leads on
-pub far_all : (side : Side) (g : Graph) (x : List ℤ) (set : List Bool) (v : ℕ) → HasCome g v None (AreFarInAt side g.rows x set v) → (k : ℕ) (way : Way) → near_at side g.rows k way ≡ v → IsFarIn side g.rows x set k way
-far_all Ahead g x set v come k way near residual = come.passed k way residual.is_arc near tt way near residual
-far_all Behind g x set v come k Forward near residual = come.passed k Backward residual.is_arc near tt Forward near residual
-far_all Behind g x set v come k Backward near residual = come.passed k Forward residual.is_arc near tt Backward near residual
+-- no residual arc leads out along an arc of which both ends are in the set, or neither
+pub closed_between : (side : Side) (arcs : List ArcRow) (x : List ℤ) (set : List Bool) (k : ℕ) → in_set set (row_at arcs k).tail ≡ in_set set (row_at arcs k).head → IsClosedAlong side arcs x set k
+closed_between Ahead arcs x set k same Forward residual near = sym same ∙ near
+closed_between Ahead arcs x set k same Backward residual near = same ∙ near
+closed_between Behind arcs x set k same Forward residual near = same ∙ near
+closed_between Behind arcs x set k same Backward residual near = sym same ∙ near
 
--- the node to which a residual arc leads on is marked
-pub IsGrown-put : (side : Side) (arcs : List ArcRow) (x : List ℤ) (old new : MarkedView) (v k : ℕ) (way : Way) → IsResidual arcs x k way → in_set old.marks (near_at side arcs k way) ≡ true → far_at side arcs k way ≡ v → v < length old.marks
-    → new.marks ≡ slice_set old.marks v true → new.nodes ≡ slice_set old.nodes old.count v → new.count ≡ old.count + 1 → IsGrown side arcs x old new
-IsGrown-put side arcs x old new v k way residual near far node marks nodes count = rw (marks, nodes, count) (record {
-  same_size = length-set old.marks v true;
-  kept = λ w h. still_noted old.marks v w node h;
+-- the way out along an arc goes from the end that is in the set
+out_from : (side : Side) (a : ArcRow) (set : List Bool) (way : Way) → in_set set (near_of side a way) ≡ true → in_set set (far_of side a way) ≡ false → way ≡ way_from side (in_set set a.tail)
+out_from Ahead a set Forward near far = ap (way_from Ahead) (sym near)
+out_from Ahead a set Backward near far = ap (way_from Ahead) (sym far)
+out_from Behind a set Forward near far = ap (way_from Behind) (sym far)
+out_from Behind a set Backward near far = ap (way_from Behind) (sym near)
+
+-- where that way has no room, no residual arc leads out along the arc
+pub closed_along : (side : Side) (arcs : List ArcRow) (x : List ℤ) (set : List Bool) (k : ℕ) → (IsResidual arcs x k (way_from side (in_set set (row_at arcs k).tail)) → ⊥) → IsClosedAlong side arcs x set k
+closed_along side arcs x set k none way residual near =
+    true_from_ne_false (in_set set (far_at side arcs k way)) (λ far. none (subst (IsResidual arcs x k) (out_from side (row_at arcs k) set way near far) residual))
+
+-- the end from which it goes, and the other one
+near_from : (side : Side) (a : ArcRow) (from_tail : Bool) → near_of side a (way_from side from_tail) ≡ cond from_tail a.tail a.head
+near_from Ahead a true = refl
+near_from Ahead a false = refl
+near_from Behind a true = refl
+near_from Behind a false = refl
+
+far_from : (side : Side) (a : ArcRow) (from_tail : Bool) → far_of side a (way_from side from_tail) ≡ cond from_tail a.head a.tail
+far_from Ahead a true = refl
+far_from Ahead a false = refl
+far_from Behind a true = refl
+far_from Behind a false = refl
+
+-- it leads out to the other end, where that is not in the set
+pub out_along : (side : Side) (arcs : List ArcRow) (x : List ℤ) (set : List Bool) (k : ℕ) (from_tail : Bool) → IsPseudoflow (length set) arcs x → IsResidual arcs x k (way_from side from_tail)
+    → in_set set (cond from_tail (row_at arcs k).tail (row_at arcs k).head) ≡ true → in_set set (cond from_tail (row_at arcs k).head (row_at arcs k).tail) ≡ false → LeadsOut side arcs x set (cond from_tail (row_at arcs k).head (row_at arcs k).tail)
+out_along side arcs x set k from_tail flow residual near far = record {
+  arc = record { arc = k; way = way_from side from_tail };
+  residual = residual;
+  near = ap (in_set set) (near_from side (row_at arcs k) from_tail) ∙ near;
+  far = far_from side (row_at arcs k) from_tail;
+  node = subst (λ (v : ℕ). v < length set) (far_from side (row_at arcs k) from_tail) (far_of-in side (length set) (row_at arcs k) (way_from side from_tail) (flow.rows k residual.is_arc));
+  outside = far;
+}
+
+-- the node to which a residual arc leads out comes into the set
+pub IsGrown-put : (side : Side) (arcs : List ArcRow) (x : List ℤ) (set : List Bool) (v : ℕ) → LeadsOut side arcs x set v → IsGrown side arcs x set (slice_set set v true)
+IsGrown-put side arcs x set v out = record {
+  same_size = length-set set v true;
+  kept = λ w h. still_noted set v w out.node h;
   least = λ other closed holds w h. elim (cases_eq w v) [
-    | inl same ↦ subst (λ (q : ℕ). in_set other q ≡ true) (far ∙ sym same) (closed k way residual (holds (near_at side arcs k way) near))
-    | inr ne ↦ holds w (sym (get_or-set_other old.marks v w true false ne) ∙ h)
+    | inl same ↦ subst (λ (q : ℕ). in_set other q ≡ true) (out.far ∙ sym same) (closed out.arc.arc out.arc.way out.residual (holds (near_at side arcs out.arc.arc out.arc.way) out.near))
+    | inr ne ↦ holds w (sym (get_or-set_other set v w true false ne) ∙ h)
   ];
-  no_shorter = omega arith;
-  same_before = λ j lt. get_or-set_other old.nodes old.count j v 0 (λ e. omega (arith, lt));
-})
+}
+
+-- how much a node counts outside
+abbrev outside : Bool → ℕ
+outside = λ b. cond (not b) 1 0
+
+-- a set that grows leaves no more outside, and fewer where some node came in
+no_more_outside : (old new : List Bool) → length new ≡ length old → ((v : ℕ) → in_set old v ≡ true → in_set new v ≡ true) → count_by not new ≤ count_by not old
+no_more_outside [] [] sized kept = omega arith
+no_more_outside [] (d ∷ new) sized kept = absurd (omega arith)
+no_more_outside (b ∷ old) [] sized kept = absurd (omega arith)
+no_more_outside (true ∷ old) (false ∷ new) sized kept = absurd (false≢true (kept 0 refl))
+no_more_outside (true ∷ old) (true ∷ new) sized kept =
+    omega (arith, sum_by-cons outside true old, sum_by-cons outside true new, no_more_outside old new (omega arith) (λ v. kept (suc v)))
+no_more_outside (false ∷ old) (true ∷ new) sized kept =
+    omega (arith, sum_by-cons outside false old, sum_by-cons outside true new, no_more_outside old new (omega arith) (λ v. kept (suc v)))
+no_more_outside (false ∷ old) (false ∷ new) sized kept =
+    omega (arith, sum_by-cons outside false old, sum_by-cons outside false new, no_more_outside old new (omega arith) (λ v. kept (suc v)))
+
+fewer_outside : (old new : List Bool) (u : ℕ) → length new ≡ length old → ((v : ℕ) → in_set old v ≡ true → in_set new v ≡ true) → in_set old u ≡ false → in_set new u ≡ true → count_by not new < count_by not old
+fewer_outside [] [] u sized kept out come = absurd (false≢true come)
+fewer_outside [] (d ∷ new) u sized kept out come = absurd (omega arith)
+fewer_outside (b ∷ old) [] u sized kept out come = absurd (omega arith)
+fewer_outside (true ∷ old) (d ∷ new) zero sized kept out come = absurd (true≢false out)
+fewer_outside (false ∷ old) (false ∷ new) zero sized kept out come = absurd (false≢true come)
+fewer_outside (false ∷ old) (true ∷ new) zero sized kept out come =
+    omega (arith, sum_by-cons outside false old, sum_by-cons outside true new, no_more_outside old new (omega arith) (λ v. kept (suc v)))
+fewer_outside (true ∷ old) (false ∷ new) (suc u) sized kept out come = absurd (false≢true (kept 0 refl))
+fewer_outside (true ∷ old) (true ∷ new) (suc u) sized kept out come =
+    omega (arith, sum_by-cons outside true old, sum_by-cons outside true new, fewer_outside old new u (omega arith) (λ v. kept (suc v)) out come)
+fewer_outside (false ∷ old) (true ∷ new) (suc u) sized kept out come =
+    omega (arith, sum_by-cons outside false old, sum_by-cons outside true new, fewer_outside old new u (omega arith) (λ v. kept (suc v)) out come)
+fewer_outside (false ∷ old) (false ∷ new) (suc u) sized kept out come =
+    omega (arith, sum_by-cons outside false old, sum_by-cons outside false new, fewer_outside old new u (omega arith) (λ v. kept (suc v)) out come)
+
+-- so it is where that node came in, and more
+pub fewer_after : {side : Side} {arcs : List ArcRow} {x : List ℤ} {set new : List Bool} {v : ℕ} → LeadsOut side arcs x set v → IsGrown side arcs x (slice_set set v true) new → count_by not new < count_by not set
+fewer_after {side = side} {arcs = arcs} {x = x} {set = set} {new = new} {v = v} out grown =
+    let all = IsGrown-trans (IsGrown-put side arcs x set v out) grown in
+    fewer_outside set new v all.same_size all.kept out.outside (grown.kept v (get_or-set_same set v true false out.node))
 
 -- ---- marks of a cut whose nodes are listed
 
@@ -483,10 +557,3 @@ taken_all listed before between after marks places nodes are sized named marked 
         | inr free ↦ second.kept v (first.kept v (are.unmarked v free ∙ sym out))
       ]
     ]
-
--- the nodes of the marks that were taken are listed
-pub taken_listed : (listed marks : List Bool) (nodes : List ℕ) → length listed ≡ length marks → ((v : ℕ) → in_set marks v ≡ true → Any (λ p. p ≡ v) nodes) → AreNodesIn nodes listed → AreMarkedListed listed marks
-taken_listed listed marks nodes sized marked noted = record {
-  one_a_node = sized;
-  unmarked = λ v out. false_from_ne_true (in_set marks v) (λ is. true≢false (sym (noted v (marked v is) (omega (arith, marked_in marks v is, sized))) ∙ out));
-}

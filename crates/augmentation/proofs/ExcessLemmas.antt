@@ -17,7 +17,7 @@ use Rattle.tracked.specs.Marks.{in_set}
 use Rattle.tracked.specs.Journal.{IsSince}
 use Rattle.tracked.specs.declared.journal.Journal.{Journal}
 use Rattle.tracked.proofs.JournalLemmas.{named_at}
-use Rattle.tracked.proofs.TouchedLemmas.{noted_or_not}
+use Rattle.tracked.proofs.TouchedLemmas.{noted_or_not, still_noted}
 use Rattle.tracked.proofs.TrackedLemmas.{AreLeft, AreLeft-all, AreLeft-more, AreLeft-start}
 use Rattle.augmentation.specs.Cut.{amount, amount_of}
 use Rattle.augmentation.specs.Excess.{AreUnbalancedListed, IsBalancedOrListed}
@@ -66,25 +66,22 @@ listed_back listed listed' j es ys nodes are since sized still named all = recor
 
 -- ---- the roots of a side, marked in the order of a list
 
--- of the first j places on the list those are marked that are roots, and no later one
+-- no node is marked but roots, and of the first j places on the list those are marked that are roots
 pub record AreRootsMarked (side : Side) (e : List ℤ) (places : List ℕ) (j : ℕ) (set : List Bool) : Type 0 where
   pub roots : (v : ℕ) → in_set set v ≡ true → IsRoot side (number_at e v)
   pub marked : (i : ℕ) → i < j → IsRoot side (number_at e (node_at places i)) → in_set set (node_at places i) ≡ true
-  pub not_yet : (i : ℕ) → j ≤ i → i < length places → in_set set (node_at places i) ≡ false
 
 module _ (side : Side) (e : List ℤ) (places : List ℕ) (j : ℕ) (set : List Bool) (are : AreRootsMarked side e places j set) where
-  pub root_marked : AllPairs ◌≢◌ places → j < length places → node_at places j < length set → IsRoot side (number_at e (node_at places j)) → AreRootsMarked side e places (j + 1) (slice_set set (node_at places j) true)
-  root_marked apart j_in there root = record {
+  pub root_marked : node_at places j < length set → IsRoot side (number_at e (node_at places j)) → AreRootsMarked side e places (j + 1) (slice_set set (node_at places j) true)
+  root_marked there root = record {
     roots = λ v h. (elim (cases_eq v (node_at places j)) [
       | inl same ↦ subst (λ (q : ℕ). IsRoot side (number_at e q)) (sym same) root
       | inr ne ↦ are.roots v (sym (get_or-set_other set (node_at places j) v true false ne) ∙ h)
     ]);
     marked = λ i lt is_root. (elim (cases_eq i j) [
       | inl same ↦ subst (λ (q : ℕ). in_set (slice_set set (node_at places j) true) (node_at places q) ≡ true) (sym same) (get_or-set_same set (node_at places j) true false there)
-      | inr ne ↦ (let before : i < j = omega (arith, lt, ne) in
-          get_or-set_other set (node_at places j) (node_at places i) true false (apart i j 0 before j_in) ∙ are.marked i before is_root)
+      | inr ne ↦ still_noted set (node_at places j) (node_at places i) there (are.marked i (omega (arith, lt, ne)) is_root)
     ]);
-    not_yet = λ i le lt. get_or-set_other set (node_at places j) (node_at places i) true false (λ same. apart j i 0 (omega (arith, le)) lt (sym same)) ∙ are.not_yet i (omega (arith, le)) lt;
   }
 
   pub no_root_passed : (IsRoot side (number_at e (node_at places j)) → ⊥) → AreRootsMarked side e places (j + 1) set
@@ -94,7 +91,6 @@ module _ (side : Side) (e : List ℤ) (places : List ℕ) (j : ℕ) (set : List 
       | inl same ↦ absurd (no_root (subst (λ (q : ℕ). IsRoot side (number_at e (node_at places q))) same is_root))
       | inr ne ↦ are.marked i (omega (arith, lt, ne)) is_root
     ]);
-    not_yet = λ i le lt. are.not_yet i (omega (arith, le)) lt;
   }
 
 -- ---- what lies at the roots of a side, summed over the nodes that are listed

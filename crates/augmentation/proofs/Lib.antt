@@ -1,7 +1,6 @@
 pub mod PushLemmas
 pub mod PathLemmas
 pub mod SettleLemmas
-pub mod MarkedLemmas
 pub mod CutLemmas
 pub mod ExcessLemmas
 pub mod NodeLemmas

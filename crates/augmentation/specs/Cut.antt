@@ -1,11 +1,12 @@
 -- Sets of nodes whose supply cannot leave, or whose demand cannot be met
 -- (Ahuja, Magnanti, Orlin, "Network Flows": feasibility of flows, cuts).
-use Rattle.std.specs.Prelude.{◌≡◌, ℕ, suc, ◌<◌, ◌≤◌, ℤ, pos, ◌-ℤ◌, ◌+ℤ◌, ◌≤ℤ◌, neg_ℤ, List, [], ◌∷◌, length, Bool, true, false, if◌then◌else◌, ◌&&◌, ◌↔◌, Any, not, IsTrue}
+use Rattle.std.specs.Prelude.{◌≡◌, ℕ, suc, ◌<◌, ℤ, pos, ◌-ℤ◌, ◌+ℤ◌, ◌≤ℤ◌, neg_ℤ, List, [], ◌∷◌, length, Bool, true, false, if◌then◌else◌, ◌&&◌, ◌↔◌, Any, not, IsTrue}
 use Rattle.dimacs_text.specs.declared.problem.ArcRow.{ArcRow}
+use Rattle.residual_graph.specs.declared.residual.ResidualArc.{ResidualArc}
 use Rattle.residual_graph.specs.declared.residual.Way.{Way}
+use Rattle.residual_graph.specs.declared.residual.Way.TheVariants.{Backward, Forward}
 use Rattle.residual_graph.specs.declared.side.Side.{Side}
 use Rattle.residual_graph.specs.declared.side.Side.TheVariants.{Ahead, Behind}
-use Rattle.augmentation.specs.Marked.{MarkedView}
 use Rattle.augmentation.specs.Push.{left, part_above_0}
 pub use Rattle.augmentation.specs.Push.{lack}
 use Rattle.augmentation.specs.ScratchView.{ScratchView}
@@ -14,7 +15,6 @@ use Rattle.residual_graph.specs.Residual.{number_at, row_at, start_of, end_of, I
 use Rattle.residual_graph.specs.Side.{IsRoot}
 use Rattle.tracked.specs.Marks.{in_set}
 use Rattle.tracked.specs.Tracked.{TrackedView}
-use Rattle.tracked.specs.NodeLists.{node_at}
 
 -- the sum of f over the nodes of a set
 abbrev pub sum_in : List Bool → (ℕ → ℤ) → ℤ
@@ -66,6 +66,11 @@ near_of Behind a way = end_of a way
 abbrev pub far_of : Side → ArcRow → Way → ℕ
 far_of Ahead a way = end_of a way
 far_of Behind a way = start_of a way
+
+-- the way in which a residual arc goes along its arc that leads on from the tail, or from the head
+abbrev pub way_from : Side → Bool → Way
+way_from Ahead from_tail = if from_tail then Forward else Backward
+way_from Behind from_tail = if from_tail then Backward else Forward
 
 abbrev pub near_at : Side → List ArcRow → ℕ → Way → ℕ
 near_at side arcs k way = near_of side (row_at arcs k) way
@@ -125,6 +130,19 @@ pub record IsParted (arcs : List ArcRow) (x e : List ℤ) : Type 0 where
   pub holds : HoldsRoots Ahead e set
   pub no_deficit : HasNoDeficit e set
 
+-- no residual arc along arc k leads on out of the set
+abbrev pub IsClosedAlong : Side → List ArcRow → List ℤ → List Bool → ℕ → Type 0
+IsClosedAlong side arcs x set k = (way : Way) → IsResidual arcs x k way → in_set set (near_at side arcs k way) ≡ true → in_set set (far_at side arcs k way) ≡ true
+
+-- a residual arc leads on from a node of the set to node v, which is not in it
+pub record LeadsOut (side : Side) (arcs : List ArcRow) (x : List ℤ) (set : List Bool) (v : ℕ) : Type 0 where
+  pub arc : ResidualArc
+  pub residual : IsResidual arcs x arc.arc arc.way
+  pub near : in_set set (near_at side arcs arc.arc arc.way) ≡ true
+  pub far : far_at side arcs arc.arc arc.way ≡ v
+  pub node : v < length set
+  pub outside : in_set set v ≡ false
+
 -- the residual arc along arc k, where it is there, has its far node in the set
 abbrev pub IsFarIn : Side → List ArcRow → List ℤ → List Bool → ℕ → Way → Type 0
 IsFarIn side arcs x set k way = IsResidual arcs x k way → in_set set (far_at side arcs k way) ≡ true
@@ -133,13 +151,11 @@ IsFarIn side arcs x set k way = IsResidual arcs x k way → in_set set (far_at s
 abbrev pub AreFarIn : Side → List ArcRow → List ℤ → List Bool → ℕ → Type 0
 AreFarIn side arcs x set v = (k : ℕ) (way : Way) → near_at side arcs k way ≡ v → IsFarIn side arcs x set k way
 
--- the marked nodes are others beside the same, or the same: whatever holds the old, and has no residual arc that leads on out of it, holds the new too
-pub record IsGrown (side : Side) (arcs : List ArcRow) (x : List ℤ) (old new : MarkedView) : Type 0 where
-  pub same_size : length new.marks ≡ length old.marks
-  pub kept : (v : ℕ) → in_set old.marks v ≡ true → in_set new.marks v ≡ true
-  pub least : (other : List Bool) → IsClosed side arcs x other → ((v : ℕ) → in_set old.marks v ≡ true → in_set other v ≡ true) → (v : ℕ) → in_set new.marks v ≡ true → in_set other v ≡ true
-  pub no_shorter : old.count ≤ new.count
-  pub same_before : (j : ℕ) → j < old.count → node_at new.nodes j ≡ node_at old.nodes j
+-- the set became another: whatever holds the old one, and has no residual arc that leads on out of it, holds the new one too
+pub record IsGrown (side : Side) (arcs : List ArcRow) (x : List ℤ) (old new : List Bool) : Type 0 where
+  pub same_size : length new ≡ length old
+  pub kept : (v : ℕ) → in_set old v ≡ true → in_set new v ≡ true
+  pub least : (other : List Bool) → IsClosed side arcs x other → ((v : ℕ) → in_set old v ≡ true → in_set other v ≡ true) → (v : ℕ) → in_set new v ≡ true → in_set other v ≡ true
 
 -- the set that tells why there is no legal flow: where something lies in excess the smallest set of the greatest surplus, else where something lies in deficit that of the greatest shortfall, else none
 pub record IsChosenSet (arcs : List ArcRow) (supply : ℕ → ℤ) (e : List ℤ) (set : List Bool) : Type 0 where

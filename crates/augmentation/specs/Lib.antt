@@ -5,7 +5,6 @@ pub mod Path
 pub mod Pseudoflow
 pub mod Pushes
 pub mod Settle
-pub mod Marked
 pub mod Cut
 pub mod Side
 pub mod Found

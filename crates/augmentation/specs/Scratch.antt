@@ -7,6 +7,6 @@ use Rattle.augmentation.specs.Attempt.{IsAttemptFor}
 pub record IsScratch (s : Inside) : Type 0 where
   pub predecessors_sized : length s.predecessors.items ≡ length s.potentials.items
   pub queue_sized : length s.queue.entries ≡ length s.potentials.items
-  pub marked_sized : length s.marked.marks ≡ length s.potentials.items
+  pub marked_sized : length s.marked ≡ length s.potentials.items
   pub tree_sized : length s.tree.labels ≡ length s.potentials.items
   pub attempt : IsAttemptFor (length s.potentials.items) s.attempt

@@ -1,19 +1,22 @@
 -- What leads on from the marked nodes of a side.
-use Rattle.std.specs.Prelude.{◌≡◌, ℕ, true}
-use Rattle.residual_graph.specs.declared.residual.Way.{Way}
-use Rattle.tracked.specs.Marks.{in_set}
-use Rattle.augmentation.specs.Cut.{AreFarIn, IsFarIn, IsGrown, near_at}
-use Rattle.augmentation.specs.Marked.{MarkedView}
+use Rattle.std.specs.Prelude.{ℕ, List, Bool}
+use Rattle.augmentation.specs.Cut.{AreFarIn, IsClosed, IsClosedAlong, IsGrown, LeadsOut}
 use Rattle.augmentation.specs.declared.side.OnSide.{OnSide}
 
--- the marked nodes are others beside the same, or the same, and no more than what leads on from them
-abbrev pub IsGrownOn : OnSide → MarkedView → MarkedView → Type 0
+-- no node is marked but those that were, and what leads on from them
+abbrev pub IsGrownOn : OnSide → List Bool → List Bool → Type 0
 IsGrownOn on old new = IsGrown on.side on.graph.now.rows on.flow.now old new
 
--- each residual arc that leads on from node v leads to a marked node
-abbrev pub AreFarOn : OnSide → MarkedView → ℕ → Type 0
-AreFarOn on m v = AreFarIn on.side on.graph.now.rows on.flow.now m.marks v
+-- a residual arc leads on from a marked node to node v, which is not marked
+abbrev pub LeadsOutOn : OnSide → List Bool → ℕ → Type 0
+LeadsOutOn on set v = LeadsOut on.side on.graph.now.rows on.flow.now set v
 
--- the residual arc along arc k that leads on from a marked node leads to a marked one then
-abbrev pub MarksOn : OnSide → MarkedView → MarkedView → ℕ → Way → Type 0
-MarksOn on old new k way = in_set old.marks (near_at on.side on.graph.now.rows k way) ≡ true → IsFarIn on.side on.graph.now.rows on.flow.now new.marks k way
+-- no residual arc leads out of the marked nodes: none at all, none along arc k, or none that leads on from node v
+abbrev pub IsClosedOn : OnSide → List Bool → Type 0
+IsClosedOn on set = IsClosed on.side on.graph.now.rows on.flow.now set
+
+abbrev pub IsClosedAlongOn : OnSide → List Bool → ℕ → Type 0
+IsClosedAlongOn on set k = IsClosedAlong on.side on.graph.now.rows on.flow.now set k
+
+abbrev pub AreFarOn : OnSide → List Bool → ℕ → Type 0
+AreFarOn on set v = AreFarIn on.side on.graph.now.rows on.flow.now set v

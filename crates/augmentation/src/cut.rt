@@ -9,11 +9,11 @@ ghost use Rattle.tracked.specs.Marks.{in_set};
 ghost use Rattle.tracked.specs.Tracked.{IsBroughtBack, IsFresh, IsWritten};
 
 use crate::excess::Excess;
-use crate::marked::Marked;
 use crate::scratch::Scratch;
 use residual_graph::{Graph, Side};
 use std::alloc::{AllocError, Global};
 use std::marker::Model;
+use std::mem::swap;
 use tracked::{Touched, Tracked};
 
 /// A mark for each node, set where it is in the cut, beside what a snapshot kept of the marks. It is seen as this table.
@@ -85,16 +85,16 @@ impl Cut {
         self.table.bring_back();
     }
 
-    /// Marks these nodes, and no other.
-    pub(crate) fn take(&mut self, marked: &Marked)
-        requires same_length { length marked.now.marks ≡ length self.old.entries }
+    /// Marks these nodes, and no other; their list is taken over, for the one that was.
+    pub(crate) fn take(&mut self, marked: &mut Touched)
+        requires same_length { length marked.old ≡ length self.old.entries }
         ensures written { IsWritten self.old self.new }
-        ensures entries { self.new.entries ≡ marked.now.marks }
+        ensures entries { self.new.entries ≡ marked.old }
+        ensures same_size { length marked.new ≡ length marked.old }
     {
-        take_marks(&mut self.table, marked.marks(), self.listed.places());
-        take_marks(&mut self.table, marked.marks(), marked.nodes());
-        self.listed.clear();
-        list(&mut self.listed, marked.nodes());
+        take_marks(&mut self.table, marked, self.listed.places());
+        take_marks(&mut self.table, marked, marked.places());
+        swap(&mut self.listed, marked);
     }
 }
 
@@ -122,20 +122,20 @@ pub fn mark_cut(
     } else if !are_marked {
         scratch.mark_side(Side::Ahead, graph, flow.entries(), excess);
     }
-    cut.take(&scratch.marked);
+    cut.take(&mut scratch.marked);
 }
 
-/// Makes the marks of these nodes those of a table.
-fn take_marks(table: &mut Tracked<bool>, marks: &[bool], nodes: &[u32])
-    requires same_length { length marks.now ≡ length table.old.entries }
-    requires nodes_in { All (λ v. v < length marks.now) nodes.now }
+/// Makes the marks of these nodes in a table those that they have here.
+fn take_marks(table: &mut Tracked<bool>, marked: &Touched, nodes: &[u32])
+    requires same_length { length marked.now ≡ length table.old.entries }
+    requires nodes_in { All (λ v. v < length marked.now) nodes.now }
     ensures written { IsWritten table.old table.new }
-    ensures taken { AreTaken nodes.now table.old.entries table.new.entries marks.now }
+    ensures taken { AreTaken nodes.now table.old.entries table.new.entries marked.now }
 {
     for node in nodes {
         let v = *node as usize;
-        if table.get(v) != marks[v] {
-            table.set(v, marks[v]);
+        if table.get(v) != marked.is_noted(v) {
+            table.set(v, marked.is_noted(v));
         }
     }
 }

@@ -112,14 +112,14 @@ impl Excess {
     }
 
     /// Whether a marked node is in deficit.
-    pub(crate) fn has_deficit_among(&self, marks: &[bool]) -> bool
-        requires one_a_node { length marks.now ≡ length self.now }
-        ensures { result ≡ false → HasNoDeficit self.now marks.now }
+    pub(crate) fn has_deficit_among(&self, marked: &Touched) -> bool
+        requires one_a_node { length marked.now ≡ length self.now }
+        ensures { result ≡ false → HasNoDeficit self.now marked.now }
     {
         let places = self.unbalanced.places();
         for j in 0..places.len() {
             let v = places[j] as usize;
-            if marks[v] && self.entries[v] < 0 {
+            if marked.is_noted(v) && self.entries[v] < 0 {
                 return true;
             }
         }

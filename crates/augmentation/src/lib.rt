@@ -15,7 +15,6 @@ mod draft;
 mod excess;
 mod exchange;
 mod held;
-mod marked;
 mod near;
 mod order;
 mod potentials;

@@ -15,7 +15,6 @@ ghost use Rattle.augmentation.specs.Settle.{AreShortest};
 use crate::attempt::Attempt;
 use crate::certificate::are_in_range;
 use crate::excess::Excess;
-use crate::marked::Marked;
 use crate::potentials::renew;
 use crate::side::mark_side;
 use crate::trails::{Ground, Trails, find_way};
@@ -25,7 +24,7 @@ use residual_graph::{Graph, Side};
 use shortest_paths::{Predecessor, Tree, search_labels, search_levels};
 use std::alloc::{AllocError, Global};
 use std::marker::Model;
-use tracked::Tracked;
+use tracked::{Touched, Tracked};
 
 /// Tables with one entry a node. Between two calls nothing is known of them but their size.
 #[derive(Drop)]
@@ -41,7 +40,7 @@ pub struct Scratch {
     /// The labels that were tested last, and what changed since.
     pub(crate) tree: Tree,
     /// The nodes of a side, while a cut is looked for.
-    pub(crate) marked: Marked,
+    pub(crate) marked: Touched,
     pub(crate) attempt: Attempt,
 }
 
@@ -55,7 +54,7 @@ impl Model for Scratch {
     ghost view = { λ s. record {
       potentials = s.potentials.items;
       predecessors = s.predecessors.items;
-      marks = s.marked.marks;
+      marks = s.marked;
       held = s.tree.held;
     } };
 
@@ -77,7 +76,7 @@ impl Scratch {
         let trails = Trails::new(alloc, entries as usize);
         let potentials = vec![in alloc; 0; entries as usize];
         let tree = Tree::new(alloc, entries as usize, arcs);
-        let marked = Marked::new(alloc, entries as usize);
+        let marked = Touched::new(alloc, entries as usize);
         let attempt = Attempt::new(alloc, entries as usize, arcs);
         let (((predecessors, trails), (queue, potentials)), (tree, (marked, attempt))) = both(
             both(both(predecessors, trails), both(queue, potentials)),
@@ -167,7 +166,7 @@ impl Scratch {
         ensures parted { IsTrue result → IsParted graph.now.rows flow.now excess.now }
     {
         self.mark_side(Side::Ahead, graph, flow, excess);
-        !excess.has_deficit_among(self.marked.marks())
+        !excess.has_deficit_among(&self.marked)
     }
 
     /// Marks the nodes of a side.

@@ -1,17 +1,20 @@
 //! The nodes of a side: those that the nodes in excess reach, or those that reach a node in deficit.
+//!
+//! A quick search marks nodes, each over a residual arc that is there. That it leaves none out is tested then.
 
-ghost use Rattle.std.specs.Prelude.{◌≡◌, length, ◌<◌, true};
+ghost use Rattle.std.specs.Prelude.{◌≡◌, ◌<◌, IfNone, IfSome, length, true};
 ghost use Rattle.residual_graph.specs.Residual.{IsPseudoflow};
 ghost use Rattle.residual_graph.specs.Graph.{HasEntries};
-ghost use Rattle.augmentation.specs.Cut.{AreOnSide, AreRoots, far_of, near_of};
-ghost use Rattle.augmentation.specs.Side.{AreFarOn, IsGrownOn, MarksOn};
 ghost use Rattle.tracked.specs.Marks.{in_set};
-ghost use Rattle.residual_graph.specs.declared.residual.Way.{Way};
+ghost use Rattle.augmentation.specs.Cut.{AreOnSide, AreRoots, way_from};
+ghost use Rattle.augmentation.specs.Side.{AreFarOn, IsClosedAlongOn, IsClosedOn, IsGrownOn, LeadsOutOn};
 
 use crate::excess::Excess;
-use crate::marked::Marked;
-use dimacs_text::ArcRow;
-use residual_graph::{Graph, ResidualArc, Side, Way};
+use residual_graph::{Graph, ResidualArc, Side, Walk, Way};
+use tracked::Touched;
+
+/// Where more than one node in so many is marked, all arcs are tested: in order, which is quicker.
+const MOST_LISTED: usize = 8;
 
 /// What leads on from the marked nodes of a side.
 #[derive(Clone, Copy)]
@@ -27,105 +30,164 @@ pub(crate) fn mark_side(
     graph: &Graph,
     flow: &[i64],
     excess: &Excess,
-    marked: &mut Marked,
+    marked: &mut Touched,
 )
     requires graph { HasEntries (length excess.now) graph.now }
     requires flow { IsPseudoflow (length excess.now) graph.now.rows flow.now }
-    requires marked_in { length marked.old.marks ≡ length excess.now }
-    ensures same_size { length marked.new.marks ≡ length marked.old.marks }
-    ensures side { AreOnSide side graph.now.rows flow.now excess.now marked.new.marks }
+    requires marked_in { length marked.old ≡ length excess.now }
+    ensures same_size { length marked.new ≡ length marked.old }
+    ensures side { AreOnSide side graph.now.rows flow.now excess.now marked.new }
 {
     mark_roots(side, excess, marked);
-    let mut next = 0;
-    while next < marked.count() {
-        let node = marked.node(next);
-        mark_from(OnSide { side, graph, flow }, marked, node);
-        next += 1;
+    let on = OnSide { side, graph, flow };
+    mark_reached(on, marked);
+    // The search leaves no node out, so there is no way out of what it marked.
+    while let Some(node) = way_out(on, marked) {
+        marked.note(node as usize);
+        mark_reached(on, marked);
     }
 }
 
 /// Marks the roots, and no other node.
-fn mark_roots(side: Side, excess: &Excess, marked: &mut Marked)
-    requires marked_in { length marked.old.marks ≡ length excess.now }
-    ensures same_size { length marked.new.marks ≡ length marked.old.marks }
-    ensures marked { AreRoots side excess.now marked.new.marks }
+fn mark_roots(side: Side, excess: &Excess, marked: &mut Touched)
+    requires marked_in { length marked.old ≡ length excess.now }
+    ensures same_size { length marked.new ≡ length marked.old }
+    ensures marked { AreRoots side excess.now marked.new }
 {
     marked.clear();
     let places = excess.unbalanced.places();
     for j in 0..places.len() {
-        let node = places[j];
-        if side.is_root(excess.entries[node as usize]) {
-            marked.mark(node);
+        let node = places[j] as usize;
+        if side.is_root(excess.entries[node]) {
+            marked.note(node);
         }
     }
 }
 
-/// Marks the nodes to which residual arcs lead on from a marked node.
-fn mark_from(on: OnSide<'_>, marked: &mut Marked, node: u32)
-    requires graph { HasEntries (length marked.old.marks) on.graph.now }
-    requires flow { IsPseudoflow (length marked.old.marks) on.graph.now.rows on.flow.now }
-    requires marked { in_set marked.old.marks node ≡ true }
-    ensures grown { IsGrownOn on.entry marked.old marked.new }
-    ensures far { AreFarOn on.entry marked.new node }
+/// Marks, breadth first, the nodes that the quick table of ends leads to from the marked ones.
+fn mark_reached(on: OnSide<'_>, marked: &mut Touched)
+    requires graph { HasEntries (length marked.old) on.graph.now }
+    requires flow { IsPseudoflow (length marked.old) on.graph.now.rows on.flow.now }
+    ensures { IsGrownOn on.entry marked.old marked.new }
+{
+    for next in 0..marked.size() {
+        let Some(node) = marked.places().get(next) else {
+            return;
+        };
+        let node = *node;
+        mark_from(on, marked, node);
+    }
+}
+
+/// Marks those that it leads to from one node.
+fn mark_from(on: OnSide<'_>, marked: &mut Touched, node: u32)
+    requires graph { HasEntries (length marked.old) on.graph.now }
+    requires flow { IsPseudoflow (length marked.old) on.graph.now.rows on.flow.now }
+    ensures { IsGrownOn on.entry marked.old marked.new }
+{
+    let mut ends = Walk::at(on.graph, node);
+    while let Some(end) = ends.next() {
+        // Most nodes are marked already: the arc is not looked at.
+        if marked.is_noted(end.other as usize) {
+            continue;
+        }
+        if let Some(far) = way_out_along(on, marked, end.number / 2) {
+            marked.note(far as usize);
+        }
+    }
+}
+
+/// A node that is not marked, to which a residual arc leads on from a marked one; nothing where there is none.
+fn way_out(on: OnSide<'_>, marked: &Touched) -> Option<u32>
+    requires graph { HasEntries (length marked.now) on.graph.now }
+    requires flow { IsPseudoflow (length marked.now) on.graph.now.rows on.flow.now }
+    ensures none { IfNone result (IsClosedOn on.entry marked.now) }
+    ensures some { IfSome result (LeadsOutOn on.entry marked.now) }
+{
+    if marked.places().len() > marked.size() / MOST_LISTED {
+        way_out_along_all(on, marked)
+    } else {
+        way_out_at_all(on, marked)
+    }
+}
+
+/// The same: each arc is looked at.
+fn way_out_along_all(on: OnSide<'_>, marked: &Touched) -> Option<u32>
+    requires flow { IsPseudoflow (length marked.now) on.graph.now.rows on.flow.now }
+    ensures none { IfNone result (IsClosedOn on.entry marked.now) }
+    ensures some { IfSome result (LeadsOutOn on.entry marked.now) }
+{
+    for k in 0..on.graph.rows().len() {
+        if let Some(far) = way_out_along(on, marked, k as u32) {
+            return Some(far);
+        }
+    }
+    None
+}
+
+/// The same: each arc at a marked node is looked at.
+fn way_out_at_all(on: OnSide<'_>, marked: &Touched) -> Option<u32>
+    requires graph { HasEntries (length marked.now) on.graph.now }
+    requires flow { IsPseudoflow (length marked.now) on.graph.now.rows on.flow.now }
+    ensures none { IfNone result (IsClosedOn on.entry marked.now) }
+    ensures some { IfSome result (LeadsOutOn on.entry marked.now) }
+{
+    for node in marked.places() {
+        if let Some(far) = way_out_at(on, marked, *node) {
+            return Some(far);
+        }
+    }
+    None
+}
+
+/// The same of the arcs at a marked node, each of which is looked at.
+fn way_out_at(on: OnSide<'_>, marked: &Touched, node: u32) -> Option<u32>
+    requires graph { HasEntries (length marked.now) on.graph.now }
+    requires flow { IsPseudoflow (length marked.now) on.graph.now.rows on.flow.now }
+    requires marked { in_set marked.now node ≡ true }
+    ensures none { IfNone result (AreFarOn on.entry marked.now node) }
+    ensures some { IfSome result (LeadsOutOn on.entry marked.now) }
 {
     let mut current = on.graph.first_end(node);
     while let Some(end) = current {
-        mark_over(on, marked, end / 2);
+        if let Some(far) = way_out_along(on, marked, end / 2) {
+            return Some(far);
+        }
         current = on.graph.next_end(end);
     }
+    None
 }
 
-/// Marks the node at an arc to which a residual arc leads on from a marked one.
-fn mark_over(on: OnSide<'_>, marked: &mut Marked, arc: u32)
-    requires flow { IsPseudoflow (length marked.old.marks) on.graph.now.rows on.flow.now }
+/// The same of one arc.
+fn way_out_along(on: OnSide<'_>, marked: &Touched, arc: u32) -> Option<u32>
+    requires flow { IsPseudoflow (length marked.now) on.graph.now.rows on.flow.now }
     requires arc { arc < length on.graph.now.rows }
-    ensures grown { IsGrownOn on.entry marked.old marked.new }
-    ensures far { (way : Way) → MarksOn on.entry marked.old marked.new arc way }
+    ensures none { IfNone result (IsClosedAlongOn on.entry marked.now arc) }
+    ensures some { IfSome result (LeadsOutOn on.entry marked.now) }
 {
     let row = on.graph.row(arc as usize);
-    // Most nodes are marked already: the flow is not read.
-    if marked.has(row.tail) && marked.has(row.head) {
-        return;
+    let from_tail = marked.is_noted(row.tail as usize);
+    // Of most arcs both ends are marked, or neither: the flow is not read.
+    if from_tail == marked.is_noted(row.head as usize) {
+        return None;
     }
-    mark_by(on, marked, arc, Way::Forward);
-    mark_by(on, marked, arc, Way::Backward);
-}
-
-/// Marks the node to which the residual arc in this way along an arc leads on, where that is there and comes from a marked
-/// one.
-fn mark_by(on: OnSide<'_>, marked: &mut Marked, arc: u32, way: Way)
-    requires flow { IsPseudoflow (length marked.old.marks) on.graph.now.rows on.flow.now }
-    requires arc { arc < length on.graph.now.rows }
-    ensures grown { IsGrownOn on.entry marked.old marked.new }
-    ensures far { MarksOn on.entry marked.old marked.new arc way }
-{
-    let row = on.graph.row(arc as usize);
-    let far = far_of(on.side, &row, way);
-    if marked.has(far) || !marked.has(near_of(on.side, &row, way)) {
-        return;
-    }
+    let way = way_from(on.side, from_tail);
     if !on.graph.has_room(on.flow, ResidualArc { arc, way }) {
-        return;
+        return None;
     }
-    marked.mark(far);
-}
-
-/// The end of a residual arc that is nearer to the roots of a side.
-fn near_of(side: Side, row: &ArcRow, way: Way) -> u32
-    ensures { result ≡ near_of side row.now way }
-{
-    match side {
-        Side::Ahead => way.start(row),
-        Side::Behind => way.end(row),
+    if from_tail {
+        Some(row.head)
+    } else {
+        Some(row.tail)
     }
 }
 
-/// The other end.
-fn far_of(side: Side, row: &ArcRow, way: Way) -> u32
-    ensures { result ≡ far_of side row.now way }
+/// The way in which a residual arc of a side goes along its arc that leads on from the tail, or from the head.
+fn way_from(side: Side, from_tail: bool) -> Way
+    ensures { result ≡ way_from side from_tail }
 {
-    match side {
-        Side::Ahead => way.end(row),
-        Side::Behind => way.start(row),
+    match (side, from_tail) {
+        (Side::Ahead, true) | (Side::Behind, false) => Way::Forward,
+        (Side::Ahead, false) | (Side::Behind, true) => Way::Backward,
     }
 }

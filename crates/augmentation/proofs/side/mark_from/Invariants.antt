@@ -1,13 +1,12 @@
-use Rattle.residual_graph.specs.Walk.{HasCome, ends_left}
+use Rattle.std.proofs.Common.{◌≡◌}
 use Rattle.augmentation.specs.Cut.{IsGrown}
-use Rattle.augmentation.proofs.CutLemmas.{AreFarInAt}
 use Rattle.augmentation.proofs.side.mark_from.Given as goal
 
-abbrev pub invariant-loop-current : goal.invariant-loop-current
-invariant-loop-current l = record {
+abbrev pub invariant-loop-end : goal.invariant-loop-end
+invariant-loop-end l = record {
+  graph : l.ends.graph ≡ l.on.graph.now;
   grown : IsGrown l.on.side l.on.graph.now.rows l.on.flow.now l.initial.marked l.marked;
-  come : HasCome l.on.graph.now l.node l.current (AreFarInAt l.on.side l.on.graph.now.rows l.on.flow.now l.marked.marks l.node);
 }
 
-abbrev pub decreases-loop-current : goal.decreases-loop-current
-decreases-loop-current l = ends_left l.current
+abbrev pub decreases-loop-end : goal.decreases-loop-end
+decreases-loop-end l = l.ends.left

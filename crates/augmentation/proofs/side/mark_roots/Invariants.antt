@@ -4,6 +4,6 @@ use Rattle.augmentation.proofs.side.mark_roots.Given as goal
 
 abbrev pub invariant-loop-j : goal.invariant-loop-j
 invariant-loop-j l = record {
-  same_size : length l.marked.marks ≡ length l.initial.marked.marks;
-  are : AreRootsMarked l.side l.excess l.places l.j l.marked.marks;
+  same_size : length l.marked ≡ length l.initial.marked;
+  are : AreRootsMarked l.side l.excess l.places l.j l.marked;
 }

@@ -1,22 +1,28 @@
-use Rattle.std.proofs.Common.{ℕ, ◌+◌, ◌<◌, inl, inr, arith, ap, sym, ◌∙◌}
-use Rattle.std.proofs.lemmas.Bool.{cases_eq}
-use Rattle.tracked.specs.NodeLists.{node_at}
-use Rattle.augmentation.specs.Cut.{AreFarIn}
+use Rattle.std.proofs.Common.{◌∙◌, Bool, List, subst}
+use Rattle.augmentation.specs.Cut.{IsGrown}
+use Rattle.augmentation.proofs.CutLemmas.{IsGrown-put, IsGrown-trans, fewer_after}
 use Rattle.augmentation.proofs.side.mark_side.Goals as goal
 
-pub loop-next-preserved : goal.loop-next-preserved
-loop-next-preserved c =
-    let grown = c.mark_from.ensures.grown in
-    let marked = c.mark_from.new.marked in
-    let done : (j : ℕ) → j < c.loop-next.next + 1 → AreFarIn c.args.side c.args.graph.now.rows c.args.flow.now marked.marks (node_at marked.nodes j) =
-    λ j lt k way near residual. (elim (cases_eq j c.loop-next.next) [
-      | inl taken ↦ c.mark_from.ensures.far k way (near ∙ ap (node_at marked.nodes) taken ∙ grown.same_before c.loop-next.next (omega (arith, c.loop-next-test.true)) ∙ sym c.node-node.ensures.value) residual
-      | inr before ↦ (let earlier : j < c.loop-next.next = omega (arith, lt, before) in
-          grown.kept _ (c.loop-next.invariant.done j earlier k way (near ∙ grown.same_before j (omega (arith, earlier, c.loop-next-test.true))) residual))
-    ]) in
+pub loop-node-init : goal.loop-node-init
+loop-node-init c =
+    let roots = c.mark_roots.ensures.marked in
+    let grown = c.mark_reached.ensures in
     record {
-      same_size = grown.same_size ∙ c.loop-next.invariant.same_size;
-      holds = λ v root. grown.kept v (c.loop-next.invariant.holds v root);
-      least = λ other closed holds. grown.least other closed (c.loop-next.invariant.least other closed holds);
-      done = done;
+      same_size = grown.same_size ∙ c.mark_roots.ensures.same_size;
+      holds = λ v root. grown.kept v ((roots v).1 root);
+      least = λ other closed holds. grown.least other closed (λ v is. holds v ((roots v).0 is));
     }
+
+pub loop-node-preserved : goal.loop-node-preserved
+loop-node-preserved c =
+    let before = c.loop-node.invariant in
+    let put = IsGrown-put c.args.side c.args.graph.now.rows c.args.flow.now c.loop-node.marked c.in-Some.node (c.in-Some.ensures.some) in
+    let grown = IsGrown-trans put (subst (λ (set : List Bool). IsGrown c.args.side c.args.graph.now.rows c.args.flow.now set c.mark_reached-in-Some.new.marked) c.note.ensures c.mark_reached-in-Some.ensures) in
+    record {
+      same_size = grown.same_size ∙ before.same_size;
+      holds = λ v root. grown.kept v (before.holds v root);
+      least = λ other closed holds. grown.least other closed (before.least other closed holds);
+    }
+
+pub loop-node-smaller : goal.loop-node-smaller
+loop-node-smaller c = fewer_after c.in-Some.ensures.some (subst (λ (set : List Bool). IsGrown c.args.side c.args.graph.now.rows c.args.flow.now set c.mark_reached-in-Some.new.marked) c.note.ensures c.mark_reached-in-Some.ensures)

@@ -1,16 +1,15 @@
-use Rattle.std.proofs.Common.{◌≡◌, ℕ, ◌-◌, ◌<◌, List, Bool, true, length}
-use Rattle.augmentation.specs.Cut.{HoldsRoots, IsClosed, AreFarIn}
+use Rattle.std.proofs.Common.{◌≡◌, ℕ, List, Bool, true, not, length}
+use Rattle.std.specs.List.{count_by}
+use Rattle.augmentation.specs.Cut.{HoldsRoots, IsClosed}
 use Rattle.tracked.specs.Marks.{in_set}
-use Rattle.tracked.specs.NodeLists.{node_at}
 use Rattle.augmentation.proofs.side.mark_side.Given as goal
 
-abbrev pub invariant-loop-next : goal.invariant-loop-next
-invariant-loop-next l = record {
-  same_size : length l.marked.marks ≡ length l.initial.marked.marks;
-  holds : HoldsRoots l.side l.excess l.marked.marks;
-  least : (other : List Bool) → IsClosed l.side l.graph.rows l.flow other → HoldsRoots l.side l.excess other → (v : ℕ) → in_set l.marked.marks v ≡ true → in_set other v ≡ true;
-  done : (j : ℕ) → j < l.next → AreFarIn l.side l.graph.rows l.flow l.marked.marks (node_at l.marked.nodes j);
+abbrev pub invariant-loop-node : goal.invariant-loop-node
+invariant-loop-node l = record {
+  same_size : length l.marked ≡ length l.fn.marked;
+  holds : HoldsRoots l.on.side l.excess l.marked;
+  least : (other : List Bool) → IsClosed l.on.side l.on.graph.now.rows l.on.flow.now other → HoldsRoots l.on.side l.excess other → (v : ℕ) → in_set l.marked v ≡ true → in_set other v ≡ true;
 }
 
-abbrev pub decreases-loop-next : goal.decreases-loop-next
-decreases-loop-next l = length l.marked.marks - l.next
+abbrev pub decreases-loop-node : goal.decreases-loop-node
+decreases-loop-node l = count_by not l.marked

@@ -5,4 +5,4 @@ use Rattle.tracked.specs.NodeLists.{node_at}
 use Rattle.augmentation.proofs.excess.Excess.has_deficit_among.Given as goal
 
 abbrev pub invariant-loop-j : goal.invariant-loop-j
-invariant-loop-j l = (i : ℕ) → i < l.j → in_set l.marks (node_at l.places i) ≡ true → pos 0 ≤ℤ number_at l.self-inside.entries.items (node_at l.places i)
+invariant-loop-j l = (i : ℕ) → i < l.j → in_set l.marked (node_at l.places i) ≡ true → pos 0 ≤ℤ number_at l.self-inside.entries.items (node_at l.places i)

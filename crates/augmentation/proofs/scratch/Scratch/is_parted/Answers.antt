@@ -1,4 +1,4 @@
-use Rattle.std.proofs.Common.{◌≡◌, ◌∙◌, Bool, ap, false, not, refl, subst, true}
+use Rattle.std.proofs.Common.{◌≡◌, Bool, ap, false, not, refl, subst, true}
 use Rattle.std.proofs.lemmas.Bool.{false≢true}
 use Rattle.augmentation.specs.Cut.{HasNoDeficit}
 use Rattle.augmentation.specs.ScratchView.{ScratchView}
@@ -10,7 +10,7 @@ not_true false told = refl
 
 pub returns-clause-parted : goal.returns-clause-parted
 returns-clause-parted c = λ yes.
-    (let marks = c.marks.ensures ∙ ap (λ (s : ScratchView). s.marks) c.self.view_is in
+    (let marks = ap (λ (s : ScratchView). s.marks) c.self.view_is in
     record {
       set = c.mark_side.new.self.marks;
       closed = c.mark_side.ensures.marked.closed;
