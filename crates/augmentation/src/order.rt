@@ -7,30 +7,52 @@ use residual_graph::Graph;
 use std::alloc::{AllocError, Global};
 use std::marker::Model;
 
-/// The place that no change has.
+/// The end of a list of changes.
 const NO_CHANGE: u32 = u32::MAX;
-
-/// What stands for the place of a node that is not on the walk.
-const OFF: u32 = u32::MAX;
-
-/// What stands for the place of a node that has its rank.
-const RANKED: u32 = u32::MAX - 1;
 
 /// How many steps may be taken for each node and each change, hops of circles counted in.
 const STEPS: u64 = 400;
+
+/// What a walk back along changes knows of a node.
+#[derive(Clone, Copy)]
+struct Stop {
+    /// The place of the first change that may still bring something to the node; the others follow by `next`.
+    first: u32,
+    state: State,
+}
+
+/// How far the walk is with a node.
+#[derive(Clone, Copy)]
+enum State {
+    /// It has not come there, or has gone back from there.
+    Open,
+    /// The node has this place on it.
+    OnWalk(u32),
+    /// Nothing more comes to the node, which has its rank.
+    Ranked,
+}
+
+/// A node to which no change leads, and no walk came.
+const UNTOUCHED: Stop = Stop {
+    first: NO_CHANGE,
+    state: State::Open,
+};
+
+/// What stands for a node that is not there: no walk goes on to it.
+const MISSING: Stop = Stop {
+    first: NO_CHANGE,
+    state: State::Ranked,
+};
 
 /// Walks back along the changes of a flow, depth first, in which a node gets its rank when nothing more comes to it: so a
 /// change comes from a node of lower rank. The tables have one entry a node, and are seen as how many these are.
 #[derive(Drop)]
 pub struct Order {
-    /// The place of the first change that may still bring something to the node; the others follow by `next`.
-    first: Vec<u32>,
-    /// Which place the node has on the walk.
-    places: Vec<u32>,
+    stops: Vec<Stop>,
     ranks: Vec<u32>,
     /// The nodes of the walk: the first change of each brings something from the next one.
     walk: Vec<u32>,
-    len: usize,
+    /// How many nodes have a rank.
     ranked: u32,
     /// How many steps may still be taken.
     fuel: u64,
@@ -46,14 +68,11 @@ impl Model for Order {
 
 /// Where a change comes from and where it leads; nothing where its arc is not there or carries what is wanted.
 fn ends_of(graph: &Graph, flow: &[i64], change: &Change) -> Option<(u32, u32)> {
-    let k = change.arc as usize;
-    if k >= flow.len() || k >= graph.rows().len() {
-        return None;
-    }
-    let row = &graph.rows()[k];
-    if change.flow > flow[k] {
+    let row = graph.rows().get(change.arc as usize)?;
+    let now = *flow.get(change.arc as usize)?;
+    if change.flow > now {
         Some((row.tail, row.head))
-    } else if change.flow < flow[k] {
+    } else if change.flow < now {
         Some((row.head, row.tail))
     } else {
         None
@@ -107,16 +126,13 @@ impl Order {
     pub fn new(alloc: Global, entries: usize) -> Result<Order, AllocError>
         ensures { IfOk result (λ o. o ≡ entries) }
     {
-        let first = vec![in alloc; NO_CHANGE; entries]?;
-        let places = vec![in alloc; OFF; entries]?;
+        let stops = vec![in alloc; UNTOUCHED; entries]?;
         let ranks = vec![in alloc; 0; entries]?;
-        let walk = vec![in alloc; 0; entries]?;
+        let walk = Vec::with_capacity(alloc, entries)?;
         Ok(Order {
-            first,
-            places,
+            stops,
             ranks,
             walk,
-            len: 0,
             ranked: 0,
             fuel: 0,
         })
@@ -155,60 +171,10 @@ impl Order {
         self.fuel = places.saturating_mul(STEPS);
         self.ranked = 0;
         for change in changes {
-            if let Some((tail, head)) = ends_of(graph, flow, change) {
-                self.forget(tail);
-                self.forget(head);
+            if let Some((from, to)) = ends_of(graph, flow, change) {
+                self.forget(from);
+                self.forget(to);
             }
-        }
-    }
-
-    /// Takes a node off the walk, with no change and no rank.
-    fn forget(&mut self, node: u32)
-        ensures { self.new ≡ self.old }
-    {
-        self.set_first(node, NO_CHANGE);
-        self.set_place(node, OFF);
-    }
-
-    /// Lists a change first at a node.
-    fn set_first(&mut self, node: u32, place: u32)
-        ensures { self.new ≡ self.old }
-    {
-        if let Some(first) = self.first.get_mut(node as usize) {
-            *first = place;
-        }
-    }
-
-    /// Notes the place of a node on the walk.
-    fn set_place(&mut self, node: u32, place: u32)
-        ensures { self.new ≡ self.old }
-    {
-        if let Some(entry) = self.places.get_mut(node as usize) {
-            *entry = place;
-        }
-    }
-
-    /// The place of the first change that may still bring something to a node.
-    fn first_at(&self, node: u32) -> u32 {
-        match self.first.get(node as usize) {
-            Some(first) => *first,
-            None => NO_CHANGE,
-        }
-    }
-
-    /// Which place a node has on the walk.
-    fn place_of(&self, node: u32) -> u32 {
-        match self.places.get(node as usize) {
-            Some(place) => *place,
-            None => RANKED,
-        }
-    }
-
-    /// A node of the walk.
-    fn node_at(&self, j: usize) -> u32 {
-        match self.walk.get(j) {
-            Some(node) => *node,
-            None => u32::MAX,
         }
     }
 
@@ -217,71 +183,53 @@ impl Order {
         ensures { self.new ≡ self.old }
     {
         for j in 0..changes.len() {
-            let change = changes[j];
             let Ok(place) = u32::try_from(j) else {
                 return;
             };
-            if let Some((_, node)) = ends_of(graph, flow, &change) {
-                changes[j] = Change {
-                    next: self.first_at(node),
-                    ..change
-                };
+            if let Some((_, node)) = ends_of(graph, flow, &changes[j]) {
+                changes[j].next = self.stop(node).first;
                 self.set_first(node, place);
             }
         }
     }
 
-    /// Takes a step and so many more, where there is fuel for them.
-    fn spend(&mut self, more: usize) -> bool
-        ensures { self.new ≡ self.old }
-    {
-        let steps = more as u64;
-        if self.fuel <= steps {
-            return false;
-        }
-        self.fuel = self.fuel.saturating_sub(steps).saturating_sub(1);
-        true
-    }
-
-    /// Ranks a node and all nodes before it, unless that was done.
+    /// Ranks a node and all nodes before it, unless that was done. Says whether the steps that are left were enough.
     fn rank_back(&mut self, graph: &Graph, flow: &[i64], changes: &mut [Change], node: u32) -> bool
         ensures { self.new ≡ self.old }
     {
-        if self.place_of(node) == RANKED {
+        if self.is_ranked(node) {
             return true;
         }
-        self.len = 0;
+        self.walk.clear();
         self.enter(node);
         for _ in 0..self.fuel {
-            if self.len == 0 {
+            self.step(graph, flow, changes);
+            if self.walk.is_empty() {
                 return true;
             }
-            if !self.step(graph, flow, changes) {
+            if self.fuel == 0 {
                 return false;
             }
         }
-        self.len == 0
+        false
     }
 
     /// One step of the walk: back along a change to a node without a rank; or, where that is on the walk, the circle is
     /// taken off; or, where nothing comes to the last node any more, the walk leaves that node, which gets its rank.
-    fn step(&mut self, graph: &Graph, flow: &[i64], changes: &mut [Change]) -> bool
+    fn step(&mut self, graph: &Graph, flow: &[i64], changes: &mut [Change])
         ensures { self.new ≡ self.old }
     {
-        let node = self.node_at(self.len.saturating_sub(1));
+        self.fuel = self.fuel.saturating_sub(1);
+        let Some(last) = self.walk.last() else {
+            return;
+        };
+        let node = *last;
         match self.next_from(graph, flow, changes, node) {
-            Some(from) => {
-                let place = self.place_of(from);
-                if place == OFF {
-                    self.enter(from);
-                    return self.spend(0);
-                }
-                self.take_off_circle(flow, changes, place as usize)
-            }
-            None => {
-                self.rank(node);
-                self.spend(0)
-            }
+            Some(from) => match self.stop(from).state {
+                State::OnWalk(place) => self.take_off_circle(flow, changes, place as usize),
+                _ => self.enter(from),
+            },
+            None => self.rank(node),
         }
     }
 
@@ -297,9 +245,9 @@ impl Order {
         ensures { self.new ≡ self.old }
     {
         for _ in 0..changes.len() {
-            let change = changes.get(self.first_at(node) as usize)?;
+            let change = changes.get(self.stop(node).first as usize)?;
             if let Some((from, _)) = ends_of(graph, flow, change) {
-                if self.place_of(from) != RANKED {
+                if !self.is_ranked(from) {
                     return Some(from);
                 }
             }
@@ -312,13 +260,12 @@ impl Order {
     fn enter(&mut self, node: u32)
         ensures { self.new ≡ self.old }
     {
-        let len = self.len;
-        if len < self.walk.len() {
-            self.walk[len] = node;
-            self.len = len + 1;
-            if let Ok(place) = u32::try_from(len) {
-                self.set_place(node, place);
-            }
+        let Ok(place) = u32::try_from(self.walk.len()) else {
+            return;
+        };
+        if self.walk.len() < self.walk.capacity() {
+            self.walk.push_reserved(node);
+            self.set_state(node, State::OnWalk(place));
         }
     }
 
@@ -329,52 +276,94 @@ impl Order {
         if let Some(rank) = self.ranks.get_mut(node as usize) {
             *rank = self.ranked;
         }
-        self.set_place(node, RANKED);
         self.ranked = self.ranked.saturating_add(1);
-        self.len = self.len.saturating_sub(1);
+        self.set_state(node, State::Ranked);
+        let _ = self.walk.pop();
     }
 
-    /// Takes what goes round the circle that the walk's nodes from one on form off the changes, and goes back to where the
-    /// first of them is done.
-    fn take_off_circle(&mut self, flow: &[i64], changes: &mut [Change], begin: usize) -> bool
+    /// Takes what goes round the circle that the walk's nodes from one on form off the changes, and goes back to the first
+    /// of them whose change is done with that.
+    fn take_off_circle(&mut self, flow: &[i64], changes: &mut [Change], begin: usize)
         ensures { self.new ≡ self.old }
     {
-        let hops = self.len.saturating_sub(begin);
-        let least = self.least_from(flow, changes, begin);
-        for j in begin..self.len {
-            lessen(flow, changes, self.first_at(self.node_at(j)), least);
+        let (narrowest, amount) = self.narrowest_from(flow, changes, begin);
+        for j in begin..self.walk.len() {
+            lessen(flow, changes, self.change_at(j), amount);
+            self.fuel = self.fuel.saturating_sub(1);
         }
-        let keep = self.done_from(flow, changes, begin);
-        self.cut(keep.saturating_add(1));
-        self.spend(hops)
+        self.go_back(narrowest.saturating_add(1));
     }
 
-    /// How far the walk's changes from one on are from the flow that stands, at least.
-    fn least_from(&self, flow: &[i64], changes: &[Change], begin: usize) -> i64 {
+    /// The place on the walk, from one on, of the change that is the nearest to the flow that stands, and how far that is.
+    fn narrowest_from(&self, flow: &[i64], changes: &[Change], begin: usize) -> (usize, i64) {
+        let mut narrowest = begin;
         let mut least = i64::MAX;
-        for j in begin..self.len {
-            least = least.min(distance_at(flow, changes, self.first_at(self.node_at(j))));
-        }
-        least
-    }
-
-    /// The first place of the walk, from one on, whose change is done.
-    fn done_from(&self, flow: &[i64], changes: &[Change], begin: usize) -> usize {
-        for j in begin..self.len {
-            if distance_at(flow, changes, self.first_at(self.node_at(j))) == 0 {
-                return j;
+        for j in begin..self.walk.len() {
+            let distance = distance_at(flow, changes, self.change_at(j));
+            if distance < least {
+                narrowest = j;
+                least = distance;
             }
         }
-        begin
+        (narrowest, least)
     }
 
     /// Goes back until the walk has `keep` nodes.
-    fn cut(&mut self, keep: usize)
+    fn go_back(&mut self, keep: usize)
         ensures { self.new ≡ self.old }
     {
-        for j in keep..self.len {
-            self.set_place(self.node_at(j), OFF);
+        for _ in keep..self.walk.len() {
+            if let Some(node) = self.walk.pop() {
+                self.set_state(node, State::Open);
+            }
         }
-        self.len = self.len.min(keep);
+    }
+
+    /// The change that brings something to the walk's node at a place.
+    fn change_at(&self, j: usize) -> u32 {
+        match self.walk.get(j) {
+            Some(node) => self.stop(*node).first,
+            None => NO_CHANGE,
+        }
+    }
+
+    /// What is known of a node.
+    fn stop(&self, node: u32) -> Stop {
+        match self.stops.get(node as usize) {
+            Some(stop) => *stop,
+            None => MISSING,
+        }
+    }
+
+    /// Whether a node has its rank.
+    fn is_ranked(&self, node: u32) -> bool {
+        matches!(self.stop(node).state, State::Ranked)
+    }
+
+    /// Forgets what is known of a node.
+    fn forget(&mut self, node: u32)
+        ensures { self.new ≡ self.old }
+    {
+        if let Some(stop) = self.stops.get_mut(node as usize) {
+            *stop = UNTOUCHED;
+        }
+    }
+
+    /// Notes the first change that may still bring something to a node.
+    fn set_first(&mut self, node: u32, first: u32)
+        ensures { self.new ≡ self.old }
+    {
+        if let Some(stop) = self.stops.get_mut(node as usize) {
+            stop.first = first;
+        }
+    }
+
+    /// Notes how far the walk is with a node.
+    fn set_state(&mut self, node: u32, state: State)
+        ensures { self.new ≡ self.old }
+    {
+        if let Some(stop) = self.stops.get_mut(node as usize) {
+            stop.state = state;
+        }
     }
 }
