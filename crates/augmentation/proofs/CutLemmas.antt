@@ -511,11 +511,21 @@ fewer_outside (false ∷ old) (true ∷ new) (suc u) sized kept out come =
 fewer_outside (false ∷ old) (false ∷ new) (suc u) sized kept out come =
     omega (arith, sum_by-cons outside false old, sum_by-cons outside false new, fewer_outside old new u (omega arith) (λ v. kept (suc v)) out come)
 
--- so it is where that node came in, and more
-pub fewer_after : {side : Side} {arcs : List ArcRow} {x : List ℤ} {set new : List Bool} {v : ℕ} → LeadsOut side arcs x set v → IsGrown side arcs x (slice_set set v true) new → count_by not new < count_by not set
-fewer_after {side = side} {arcs = arcs} {x = x} {set = set} {new = new} {v = v} out grown =
-    let all = IsGrown-trans (IsGrown-put side arcs x set v out) grown in
-    fewer_outside set new v all.same_size all.kept out.outside (grown.kept v (get_or-set_same set v true false out.node))
+-- the node comes in once more did, if it did not then
+pub IsGrown-then : {side : Side} {arcs : List ArcRow} {x : List ℤ} {set mid : List Bool} {v : ℕ} → LeadsOut side arcs x set v → IsGrown side arcs x set mid → IsGrown side arcs x set (slice_set mid v true)
+IsGrown-then {side = side} {arcs = arcs} {set = set} {mid = mid} {v = v} out grown = record {
+  same_size = length-set mid v true ∙ grown.same_size;
+  kept = λ w h. still_noted mid v w (omega (arith, out.node, grown.same_size)) (grown.kept w h);
+  least = λ other closed holds w h. elim (cases_eq w v) [
+    | inl same ↦ subst (λ (q : ℕ). in_set other q ≡ true) (out.far ∙ sym same) (closed out.arc.arc out.arc.way out.residual (holds (near_at side arcs out.arc.arc out.arc.way) out.near))
+    | inr ne ↦ grown.least other closed holds w (sym (get_or-set_other mid v w true false ne) ∙ h)
+  ];
+}
+
+pub fewer_then : {side : Side} {arcs : List ArcRow} {x : List ℤ} {set mid : List Bool} {v : ℕ} → LeadsOut side arcs x set v → IsGrown side arcs x set mid → count_by not (slice_set mid v true) < count_by not set
+fewer_then {set = set} {mid = mid} {v = v} out grown =
+    let all = IsGrown-then out grown in
+    fewer_outside set (slice_set mid v true) v all.same_size all.kept out.outside (get_or-set_same mid v true false (omega (arith, out.node, grown.same_size)))
 
 -- ---- marks of a cut whose nodes are listed
 

@@ -39,8 +39,9 @@ pub struct Scratch {
     pub(crate) potentials: Vec<i64>,
     /// The labels that were tested last, and what changed since.
     pub(crate) tree: Tree,
-    /// The nodes of a side, while a cut is looked for.
+    /// The nodes of a side, while a cut is looked for, and the arcs over which nodes were marked last.
     pub(crate) marked: Touched,
+    hops: Vec<u32>,
     pub(crate) attempt: Attempt,
 }
 
@@ -77,11 +78,13 @@ impl Scratch {
         let potentials = vec![in alloc; 0; entries as usize];
         let tree = Tree::new(alloc, entries as usize, arcs);
         let marked = Touched::new(alloc, entries as usize);
+        let hops = Vec::with_capacity(alloc, entries as usize);
         let attempt = Attempt::new(alloc, entries as usize, arcs);
-        let (((predecessors, trails), (queue, potentials)), (tree, (marked, attempt))) = both(
-            both(both(predecessors, trails), both(queue, potentials)),
-            both(tree, both(marked, attempt)),
-        )?;
+        let (((predecessors, trails), (queue, potentials)), ((marked, hops), (tree, attempt))) =
+            both(
+                both(both(predecessors, trails), both(queue, potentials)),
+                both(both(marked, hops), both(tree, attempt)),
+            )?;
         Ok(Scratch {
             predecessors,
             queue,
@@ -89,6 +92,7 @@ impl Scratch {
             potentials,
             tree,
             marked,
+            hops,
             attempt,
         })
     }
@@ -177,7 +181,7 @@ impl Scratch {
         ensures same { self.new ≡ record self.old { marks = self.new.marks } }
         ensures marked { AreOnSide side graph.now.rows flow.now excess.now self.new.marks }
     {
-        mark_side(side, graph, flow, excess, &mut self.marked);
+        mark_side(side, graph, flow, excess, &mut self.marked, &mut self.hops);
     }
 
     /// Searches breadth first from the nodes in excess over residual arcs that cost nothing, and says whether it came to a

@@ -1,6 +1,7 @@
 //! The nodes of a side: those that the nodes in excess reach, or those that reach a node in deficit.
 //!
-//! A quick search marks nodes, each over a residual arc that is there. That it leaves none out is tested then.
+//! A quick search marks nodes, each over a residual arc that is there. That it leaves none out is tested then. Where the
+//! arcs over which nodes were marked the last time still lead to all, that test is all that is left to do.
 
 ghost use Rattle.std.specs.Prelude.{◌≡◌, ◌<◌, IfNone, IfSome, length, true};
 ghost use Rattle.residual_graph.specs.Residual.{IsPseudoflow};
@@ -31,6 +32,7 @@ pub(crate) fn mark_side(
     flow: &[i64],
     excess: &Excess,
     marked: &mut Touched,
+    hops: &mut Vec<u32>,
 )
     requires graph { HasEntries (length excess.now) graph.now }
     requires flow { IsPseudoflow (length excess.now) graph.now.rows flow.now }
@@ -40,11 +42,11 @@ pub(crate) fn mark_side(
 {
     mark_roots(side, excess, marked);
     let on = OnSide { side, graph, flow };
-    mark_reached(on, marked);
-    // The search leaves no node out, so there is no way out of what it marked.
+    mark_again(on, marked, hops);
+    // The search leaves no node out, so it is done once at most.
     while let Some(node) = way_out(on, marked) {
+        mark_reached(on, marked, hops);
         marked.note(node as usize);
-        mark_reached(on, marked);
     }
 }
 
@@ -64,8 +66,28 @@ fn mark_roots(side: Side, excess: &Excess, marked: &mut Touched)
     }
 }
 
-/// Marks, breadth first, the nodes that the quick table of ends leads to from the marked ones.
-fn mark_reached(on: OnSide<'_>, marked: &mut Touched)
+/// Marks the nodes to which arcs lead in turn. Of the arcs those are kept that do.
+fn mark_again(on: OnSide<'_>, marked: &mut Touched, hops: &mut Vec<u32>)
+    requires flow { IsPseudoflow (length marked.old) on.graph.now.rows on.flow.now }
+    ensures { IsGrownOn on.entry marked.old marked.new }
+{
+    let mut kept = 0;
+    for j in 0..hops.len() {
+        let arc = hops[j];
+        if arc as usize >= on.graph.rows().len() {
+            continue;
+        }
+        if let Some(far) = way_out_along(on, marked, arc) {
+            marked.note(far as usize);
+            hops[kept] = arc;
+            kept += 1;
+        }
+    }
+    hops.truncate(kept);
+}
+
+/// Marks, breadth first, the nodes that the quick table of ends leads to from the marked ones, and lists the arcs that do.
+fn mark_reached(on: OnSide<'_>, marked: &mut Touched, hops: &mut Vec<u32>)
     requires graph { HasEntries (length marked.old) on.graph.now }
     requires flow { IsPseudoflow (length marked.old) on.graph.now.rows on.flow.now }
     ensures { IsGrownOn on.entry marked.old marked.new }
@@ -75,12 +97,12 @@ fn mark_reached(on: OnSide<'_>, marked: &mut Touched)
             return;
         };
         let node = *node;
-        mark_from(on, marked, node);
+        mark_from(on, marked, node, hops);
     }
 }
 
-/// Marks those that it leads to from one node.
-fn mark_from(on: OnSide<'_>, marked: &mut Touched, node: u32)
+/// The same from one node alone.
+fn mark_from(on: OnSide<'_>, marked: &mut Touched, node: u32, hops: &mut Vec<u32>)
     requires graph { HasEntries (length marked.old) on.graph.now }
     requires flow { IsPseudoflow (length marked.old) on.graph.now.rows on.flow.now }
     ensures { IsGrownOn on.entry marked.old marked.new }
@@ -93,6 +115,9 @@ fn mark_from(on: OnSide<'_>, marked: &mut Touched, node: u32)
         }
         if let Some(far) = way_out_along(on, marked, end.number / 2) {
             marked.note(far as usize);
+            if hops.len() < hops.capacity() {
+                hops.push_reserved(end.number / 2);
+            }
         }
     }
 }

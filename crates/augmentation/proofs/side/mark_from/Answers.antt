@@ -2,11 +2,15 @@ use Rattle.std.proofs.Common.{◌∙◌, Bool, List, subst, sym}
 use Rattle.augmentation.specs.Cut.{IsGrown}
 use Rattle.augmentation.proofs.CutLemmas.{IsGrown-put, IsGrown-trans}
 use Rattle.augmentation.proofs.side.mark_from.Goals as goal
+use Rattle.augmentation.proofs.side.mark_from.Goals.{After-note}
 
-pub loop-end-preserved-in-Some-way_out_along : goal.loop-end-preserved-in-Some-way_out_along
-loop-end-preserved-in-Some-way_out_along c =
-    let put = IsGrown-put c.args.on.side c.args.on.graph.now.rows c.args.on.flow.now c.loop-end.marked c.in-Some-way_out_along.far c.in-Some-way_out_along.ensures.some in
-    record {
-      graph = c.next.ensures.graph ∙ c.loop-end.invariant.graph;
-      grown = IsGrown-trans c.loop-end.invariant.grown (subst (λ (set : List Bool). IsGrown c.args.on.side c.args.on.graph.now.rows c.args.on.flow.now c.loop-end.marked set) (sym c.note.ensures) put);
-    }
+grown : (c : After-note) → IsGrown c.args.on.side c.args.on.graph.now.rows c.args.on.flow.now c.args.marked.now c.note.new.self
+grown c = IsGrown-trans c.loop-end.invariant.grown
+    (subst (λ (set : List Bool). IsGrown c.args.on.side c.args.on.graph.now.rows c.args.on.flow.now c.loop-end.marked set) (sym c.note.ensures)
+    (IsGrown-put c.args.on.side c.args.on.graph.now.rows c.args.on.flow.now c.loop-end.marked c.in-Some-way_out_along.far c.in-Some-way_out_along.ensures.some))
+
+pub loop-end-preserved-then-len-capacity : goal.loop-end-preserved-then-len-capacity
+loop-end-preserved-then-len-capacity c = record { graph = c.next.ensures.graph ∙ c.loop-end.invariant.graph; grown = grown (goal.at.loop-end-preserved-then-len-capacity c).After-note }
+
+pub loop-end-preserved-else-len-capacity : goal.loop-end-preserved-else-len-capacity
+loop-end-preserved-else-len-capacity c = record { graph = c.next.ensures.graph ∙ c.loop-end.invariant.graph; grown = grown (goal.at.loop-end-preserved-else-len-capacity c).After-note }

@@ -1,12 +1,13 @@
-use Rattle.std.proofs.Common.{◌∙◌, Bool, List, subst}
+use Rattle.std.proofs.Common.{◌∙◌, Bool, List, not, subst, sym, ◌<◌}
+use Rattle.std.specs.List.{count_by}
 use Rattle.augmentation.specs.Cut.{IsGrown}
-use Rattle.augmentation.proofs.CutLemmas.{IsGrown-put, IsGrown-trans, fewer_after}
+use Rattle.augmentation.proofs.CutLemmas.{IsGrown-then, fewer_then}
 use Rattle.augmentation.proofs.side.mark_side.Goals as goal
 
 pub loop-node-init : goal.loop-node-init
 loop-node-init c =
     let roots = c.mark_roots.ensures.marked in
-    let grown = c.mark_reached.ensures in
+    let grown = c.mark_again.ensures in
     record {
       same_size = grown.same_size ∙ c.mark_roots.ensures.same_size;
       holds = λ v root. grown.kept v ((roots v).1 root);
@@ -16,8 +17,7 @@ loop-node-init c =
 pub loop-node-preserved : goal.loop-node-preserved
 loop-node-preserved c =
     let before = c.loop-node.invariant in
-    let put = IsGrown-put c.args.side c.args.graph.now.rows c.args.flow.now c.loop-node.marked c.in-Some.node (c.in-Some.ensures.some) in
-    let grown = IsGrown-trans put (subst (λ (set : List Bool). IsGrown c.args.side c.args.graph.now.rows c.args.flow.now set c.mark_reached-in-Some.new.marked) c.note.ensures c.mark_reached-in-Some.ensures) in
+    let grown = subst (λ (set : List Bool). IsGrown c.args.side c.args.graph.now.rows c.args.flow.now c.loop-node.marked set) (sym c.note.ensures) (IsGrown-then c.in-Some.ensures.some c.mark_reached.ensures) in
     record {
       same_size = grown.same_size ∙ before.same_size;
       holds = λ v root. grown.kept v (before.holds v root);
@@ -25,4 +25,4 @@ loop-node-preserved c =
     }
 
 pub loop-node-smaller : goal.loop-node-smaller
-loop-node-smaller c = fewer_after c.in-Some.ensures.some (subst (λ (set : List Bool). IsGrown c.args.side c.args.graph.now.rows c.args.flow.now set c.mark_reached-in-Some.new.marked) c.note.ensures c.mark_reached-in-Some.ensures)
+loop-node-smaller c = subst (λ (set : List Bool). count_by not set < count_by not c.loop-node.marked) (sym c.note.ensures) (fewer_then c.in-Some.ensures.some c.mark_reached.ensures)
