@@ -58,23 +58,6 @@ fn mend(graph: &Graph, flow: &Tracked<i64>, potentials: &[i64], tree: &mut Tree)
     holds(graph, flow, tree)
 }
 
-/// Has a tree find its labels anew, and says whether they are the greatest potentials that certify the flow.
-fn search(graph: &Graph, flow: &Tracked<i64>, potentials: &[i64], tree: &mut Tree) -> bool
-    requires graph { HasEntries (length potentials.now) graph.now }
-    requires flow { IsPseudoflow (length potentials.now) graph.now.rows flow.now.entries }
-    requires sized { length tree.old.labels ≡ length potentials.now }
-    ensures tested { IsTrue result → AreTestedIn graph.now.rows flow.now.entries tree.new }
-    ensures sized { length tree.new.labels ≡ length tree.old.labels }
-    ensures held { tree.new.held ≡ tree.old.held }
-{
-    let residual = Residual {
-        graph,
-        flow: flow.entries(),
-        potentials,
-    };
-    tree.search(residual) && holds_whole(graph, flow.entries(), tree)
-}
-
 /// Has a tree mend its labels, or else find them anew, and says whether they are the greatest potentials that certify the
 /// flow. If not, they are forgotten.
 pub(crate) fn is_renewed(
@@ -92,7 +75,15 @@ pub(crate) fn is_renewed(
     ensures labels { tree.new.held.labels ≡ tree.old.held.labels }
     ensures held { IsHeldIn graph.now.rows flow.now.whole tree.new.held }
 {
-    if mend(graph, flow, potentials, tree) || search(graph, flow, potentials, tree) {
+    if mend(graph, flow, potentials, tree) {
+        return true;
+    }
+    let residual = Residual {
+        graph,
+        flow: flow.entries(),
+        potentials,
+    };
+    if tree.search(residual) && holds_whole(graph, flow.entries(), tree) {
         return true;
     }
     tree.forget();

@@ -1,10 +1,10 @@
 //! Searches and pushes in turn, until no node in excess reaches a node in deficit.
 
-ghost use Rattle.std.specs.Prelude.{◌≡◌, ◌≤◌, IsTrue};
+ghost use Rattle.std.specs.Prelude.{◌≡◌, ◌≤◌};
 ghost use Rattle.augmentation.specs.Certificate.{AreInRange};
 ghost use Rattle.augmentation.specs.Cut.{IsParted};
 ghost use Rattle.augmentation.specs.Found.{HasFoundIn, IsFoundOrParted};
-ghost use Rattle.augmentation.specs.Pseudoflow.{IsCertifiedIn, IsReady, IsReadyIn};
+ghost use Rattle.augmentation.specs.Pseudoflow.{IsCertifiedIn, IsReadyIn};
 ghost use Rattle.augmentation.specs.Pushes.{HavePushed};
 
 use crate::excess::Excess;
@@ -32,7 +32,10 @@ pub fn finish(
         flow.old flow.new excess.old excess.new scratch.old scratch.new }
     ensures parted { IsParted graph.now.rows flow.new.entries excess.new }
 {
-    if is_parted(graph, flow.entries(), excess, scratch) {
+    if !excess.has_both() {
+        return 0;
+    }
+    if scratch.is_parted(graph, flow.entries(), excess) {
         return 0;
     }
     let mut pushes = 0;
@@ -40,18 +43,6 @@ pub fn finish(
         pushes += push_round(graph, flow, excess, scratch, target);
     }
     pushes
-}
-
-/// Whether no node in excess reaches a node in deficit, by one look.
-fn is_parted(graph: &Graph, flow: &[i64], excess: &Excess, scratch: &mut Scratch) -> bool
-    requires ready { IsReady graph.now flow.now scratch.old.potentials excess.now }
-    ensures same { scratch.new ≡ record scratch.old { marks = scratch.new.marks } }
-    ensures parted { IsTrue result → IsParted graph.now.rows flow.now excess.now }
-{
-    if !excess.has_both() {
-        return true;
-    }
-    scratch.is_parted(graph, flow, excess)
 }
 
 /// Searches from the nodes in excess, where there are nodes in deficit too, and gives the first one to which it came; nothing

@@ -1,9 +1,16 @@
 use Rattle.std.proofs.Common.{◌<◌, ◌∙◌, ◌+◌, ◌^◌, ap, arith, refl, rules, sym, subst}
+use Rattle.std.proofs.lemmas.Bool.{false≢true}
 use Rattle.augmentation.specs.Pseudoflow.{IsReadyIn}
 use Rattle.augmentation.specs.ScratchView.{ScratchView}
 use Rattle.augmentation.proofs.SettleLemmas.{ArePushes-more, ArePushes-none, HavePushed-more, count_fits}
 use Rattle.tracked.proofs.TrackedLemmas.{IsWritten-same}
+use Rattle.augmentation.proofs.CutLemmas.{parted_unless_both}
 use Rattle.augmentation.proofs.rounds.finish.Goals as goal
+
+pub returns-then-not-has_both-clause-parted : goal.returns-then-not-has_both-clause-parted
+returns-then-not-has_both-clause-parted c =
+    parted_unless_both c.args.graph.now.rows c.args.flow.now.entries c.args.excess.now
+    (rw c.requires.ready.state.excess_in c.requires.ready.state.certified.flow) (λ both. false≢true (sym c.if-not-has_both.true ∙ c.has_both.ensures.1 both))
 
 pub loop-target-init : goal.loop-target-init
 loop-target-init c =
