@@ -42,6 +42,7 @@ pub fn solve_from(proposal: &mut Proposal, search: &mut Search, roots: Roots, mo
     ensures proposal { proposal.new ≡ proposal.old }
     ensures search { search.new ≡ search.old }
 {
+    // No arc has a cost: so each residual arc is tight.
     level_potentials(proposal);
     let _done = take_turns(proposal, search, &mut Goals::ALL, SOME_PAIRS, TOGETHER);
     bring_home::<true>(proposal, search, roots.source, roots.sink);
@@ -51,8 +52,8 @@ pub fn solve_from(proposal: &mut Proposal, search: &mut Search, roots: Roots, mo
     solve_greatest(proposal, search);
 }
 
-/// Makes all potentials 0: no arc has a cost, so that each residual arc is tight.
-fn level_potentials(proposal: &mut Proposal)
+/// Makes all potentials 0.
+pub fn level_potentials(proposal: &mut Proposal)
     ensures { proposal.new ≡ proposal.old }
 {
     for v in 0..proposal.entries() {

@@ -15,7 +15,7 @@ impl Search {
         ensures kept { self.new ≡ self.old }
         ensures proposal { proposal.new ≡ proposal.old }
     {
-        self.keep_none();
+        self.apart.clear();
         for v in 0..self.entries() {
             let home = seen_home::<AHEAD>(home[v]);
             let sent = seen::<AHEAD>(astray(proposal.excess::<AHEAD>(v), home));
@@ -42,13 +42,6 @@ impl Search {
             Some(apart) => *apart,
             None => 0,
         }
-    }
-
-    /// Keeps nothing apart.
-    fn keep_none(&mut self)
-        ensures { self.new ≡ self.old }
-    {
-        self.apart.clear();
     }
 
     /// Keeps so much apart at the next node.

@@ -2,6 +2,7 @@
 
 ghost use Rattle.std.specs.Prelude.{◌≡◌, ◌<◌, ◌^◌, ℕ};
 
+use crate::greatest::level_potentials;
 use crate::records::Records;
 use crate::scaling::begin_stage;
 use crate::search::Search;
@@ -25,12 +26,13 @@ impl Search {
         ensures kept { self.new ≡ self.old }
         ensures proposal { proposal.new ≡ proposal.old }
     {
-        if has_potentials(proposal) || !empty_all(proposal) {
+        let has_potentials = proposal.potentials().iter().any(|p| *p != 0);
+        if has_potentials || !empty_all(proposal) {
             return;
         }
         self.put_in_order(proposal);
         if !lower_in_turn(&self.order, proposal) {
-            raise_all(proposal);
+            level_potentials(proposal);
             begin_stage(proposal, 1);
         }
     }
@@ -63,33 +65,19 @@ impl Search {
     }
 }
 
-/// Whether a potential is not 0.
-fn has_potentials(proposal: &Proposal) -> bool {
-    for potential in proposal.potentials() {
-        if *potential != 0 {
-            return true;
-        }
-    }
-    false
-}
-
 /// Takes the flow of each arc of negative cost back to its lower bound, but of arcs from a node to itself; says whether it
 /// took any.
 fn empty_all(proposal: &mut Proposal) -> bool
     ensures { proposal.new ≡ proposal.old }
 {
     let mut some = false;
-    for k in 0..proposal.ends() / 2 {
-        let tail = proposal.tail_of(k);
-        let Some(link) = proposal.link(tail) else {
+    for k in 0..proposal.entered() {
+        let Some(ends) = proposal.ends_of(k) else {
             continue;
         };
-        let Some(opposite) = proposal.link(link.opposite) else {
-            continue;
-        };
-        let flow = link.room::<false>();
-        if link.cost < 0 && flow > 0 && link.other != opposite.other {
-            proposal.push::<false>(tail, flow);
+        let flow = ends.tail.room::<false>();
+        if ends.tail.cost < 0 && flow > 0 && ends.tail.other != ends.head.other {
+            proposal.push::<false>(ends.place, flow);
             some = true;
         }
     }
@@ -214,16 +202,4 @@ fn lower_beyond(proposal: &mut Proposal, v: usize) -> usize
         }
     }
     lowered
-}
-
-/// Makes the potentials below 0 that.
-fn raise_all(proposal: &mut Proposal)
-    ensures { proposal.new ≡ proposal.old }
-{
-    for v in 0..proposal.entries() {
-        let potential = proposal.potential(v);
-        if potential < 0 {
-            let _raised = proposal.lower::<false>(v, -potential);
-        }
-    }
 }

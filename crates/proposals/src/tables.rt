@@ -2,6 +2,7 @@
 
 ghost use Rattle.std.specs.Prelude.{◌≡◌, ◌<◌, ◌^◌, ◌*◌, IfOk, length};
 
+use crate::added::{add, renew, take_out};
 use crate::greatest::{Roots, solve_from};
 use crate::search::Search;
 use crate::solving::solve;
@@ -36,6 +37,8 @@ const NODES_A_READING: u64 = 250;
 /// How the arcs of a proposal stand to those of the flow.
 #[derive(Clone, Copy, PartialEq, Eq)]
 enum Standing {
+    /// Nothing was proposed yet.
+    Fresh,
     /// Nothing is known.
     Apart,
     /// They are the same but for noted ones, and for those where not all that was wanted was adopted.
@@ -56,16 +59,12 @@ pub struct Proposals {
     /// The arcs whose row or flow may be another than in the proposal.
     noted: Noted,
     standing: Standing,
-    /// Of how many rows the proposal is.
-    rows: usize,
     /// What the return arc is to carry, where the proposal has it closed: so it has while a greatest flow is looked for.
     returned: Option<i64>,
     /// Whether the potentials keep step too, but at the nodes that the proposal has noted.
     keeps_nodes: bool,
     /// How often the last searches from afar settled each node.
     settled: u64,
-    /// Nothing was proposed yet.
-    fresh: bool,
 }
 
 impl Model for Proposals {
@@ -106,12 +105,10 @@ impl Proposals {
             search,
             between,
             noted,
-            standing: Standing::Apart,
-            rows: 0,
+            standing: Standing::Fresh,
             returned: None,
             keeps_nodes: false,
             settled: 0,
-            fresh: true,
         })
     }
 
@@ -124,7 +121,7 @@ impl Proposals {
 
     /// Whether nothing was proposed yet.
     pub fn is_fresh(&self) -> bool {
-        self.fresh
+        self.standing == Standing::Fresh
     }
 
     /// Leads a flow, what it leaves at each node and potentials on towards the aim. It can't fail for want of memory: an arc
@@ -143,9 +140,7 @@ impl Proposals {
         requires potentials { length potentials.now ≡ self.old }
         ensures { self.new ≡ self.old }
     {
-        self.fresh = false;
         self.standing = Standing::Apart;
-        self.rows = rows.len();
         self.proposal.load_nodes(excess, potentials);
         load_arcs(&mut self.proposal, rows, flow);
         self.returned = None;
@@ -217,7 +212,6 @@ impl Proposals {
         requires potentials { length potentials.now ≡ self.old }
         ensures { self.new ≡ self.old }
     {
-        self.fresh = false;
         self.take_over(rows, flow, excess, potentials, unbalanced);
         let is_done = self.push_near(aim);
         let lacks_room = aim == Aim::GreatestFlow && self.lacks_room(rows, flow);
@@ -263,7 +257,7 @@ impl Proposals {
     pub fn note_all(&mut self, places: &[u32])
         ensures { self.new ≡ self.old }
     {
-        if self.standing == Standing::Adopted && places.len() > self.rows / MANY {
+        if self.standing == Standing::Adopted && places.len() > self.proposal.entered() / MANY {
             return;
         }
         self.noted.open();
@@ -292,32 +286,33 @@ impl Proposals {
         requires { length flow.now ≡ length rows.now }
         ensures { self.new ≡ self.old }
     {
-        if self.standing != Standing::Adopted || self.rows != rows.len() {
+        if self.standing != Standing::Adopted {
             return;
         }
-        tell_arcs(&mut self.proposal, rows.len());
+        self.proposal.tell_arcs();
         if self.returned.is_some() && !rows.is_empty() {
             let _opened = self.proposal.renew(0, &arc_of(&rows[0], flow[0]));
         }
         self.returned = None;
         self.standing = Standing::InStep;
+        self.noted.open();
         for change in changes {
-            self.catch_up_at(rows, flow, change.arc as usize);
+            self.catch_up_at(rows, flow, change.arc);
         }
         self.between.load(&self.proposal);
-        self.noted.open();
     }
 
-    /// Brings an arc in step.
-    fn catch_up_at(&mut self, rows: &[ArcRow], flow: &[i64], k: usize)
+    /// Brings an arc in step. Where another arc has its number now, that is left to be taken over as a noted one.
+    fn catch_up_at(&mut self, rows: &[ArcRow], flow: &[i64], arc: u32)
         requires { length flow.now ≡ length rows.now }
         ensures { self.new ≡ self.old }
     {
+        let k = arc as usize;
         if k >= rows.len() || flow_of(&self.proposal, k, &rows[k], flow[k]) == flow[k] {
             return;
         }
         if !self.proposal.renew(k, &arc_of(&rows[k], flow[k])) {
-            self.standing = Standing::Apart;
+            self.noted.note(arc);
         }
     }
 
@@ -367,45 +362,41 @@ impl Proposals {
         requires potentials { length potentials.now ≡ self.old }
         ensures { self.new ≡ self.old }
     {
-        if self.keeps_step(rows)
+        let is_renewed = self.keeps_step(rows)
             && renew_all(
                 &mut self.proposal,
                 &mut self.between,
                 &self.noted,
                 rows,
                 flow,
-                self.rows,
-            )
-        {
-            self.rows = rows.len();
-            self.take_over_nodes(excess, potentials, unbalanced);
-        } else {
+            );
+        if !is_renewed {
             self.returned = None;
             self.proposal.tell_arcs();
-            self.proposal.load_nodes(excess, potentials);
             load_arcs(&mut self.proposal, rows, flow);
             self.between.load(&self.proposal);
-            self.list_roots();
             self.noted.open();
             self.standing = Standing::InStep;
-            self.rows = rows.len();
+            self.keeps_nodes = false;
         }
         self.noted.clear();
+        self.take_over_nodes(excess, potentials, unbalanced);
         self.keeps_nodes = true;
     }
 
-    /// Takes over what a flow leaves at each node and potentials, and lists the nodes out of balance.
+    /// Takes over what a flow leaves at each node and potentials, and lists the nodes out of balance, where what searches from
+    /// both sides know is of the same nodes.
     fn take_over_nodes(&mut self, excess: &[i64], potentials: &[i64], unbalanced: &[u32])
         requires excess { length excess.now ≡ self.old }
         requires potentials { length potentials.now ≡ self.old }
         ensures { self.new ≡ self.old }
     {
-        if self.between.entries() != self.proposal.entries() {
-            return;
-        }
-        if !self.keeps_nodes || self.proposal.moved().is_none() {
+        let is_loaded = self.between.entries() == self.proposal.entries();
+        if !is_loaded || !self.keeps_nodes || self.proposal.moved().is_none() {
             self.proposal.load_nodes(excess, potentials);
-            self.between.list_roots(&self.proposal);
+            if is_loaded {
+                self.between.list_roots(&self.proposal);
+            }
             return;
         }
         let (sources, sinks) = self.between.listed_roots();
@@ -416,25 +407,14 @@ impl Proposals {
         self.between.list_roots_among(&self.proposal, unbalanced);
     }
 
-    /// Lists the nodes out of balance, where what searches from both sides know is of the same nodes.
-    fn list_roots(&mut self)
-        ensures { self.new ≡ self.old }
-    {
-        if self.between.entries() == self.proposal.entries() {
-            self.between.list_roots(&self.proposal);
-        }
-    }
-
-    /// Whether the proposal keeps step with these rows, and maybe others that followed them, and few of them were noted.
+    /// Whether the proposal keeps step but for arcs that were noted, or that are more or fewer now, and these are few.
     fn keeps_step(&self, rows: &[ArcRow]) -> bool {
-        self.standing == Standing::InStep
-            && self.rows >= rows.len()
-            && self.noted.listed().len() <= rows.len() / FEWER
+        self.standing == Standing::InStep && self.noted.listed().len() <= rows.len() / FEWER
     }
 
     /// Whether the proposal keeps step with these rows.
     fn is_in_step(&self, rows: &[ArcRow]) -> bool {
-        self.standing == Standing::InStep && self.rows == rows.len()
+        self.standing == Standing::InStep && self.proposal.entered() == rows.len()
     }
 
     /// Writes down where the proposal stands, less than all where there is no room for it.
@@ -493,25 +473,15 @@ fn load_arcs(proposal: &mut Proposal, rows: &[ArcRow], flow: &[i64])
     requires { length flow.now ≡ length rows.now }
     ensures { proposal.new ≡ proposal.old }
 {
-    proposal.clear_arcs();
+    let arcs = proposal.clear_arcs(rows.len());
     for row in rows {
-        proposal.count_arc(row.tail, row.head);
+        proposal.count_end(row.tail);
+        proposal.count_end(row.head);
     }
     proposal.make_room();
-    let arcs = rows.len().min(proposal.arcs());
     for j in 0..arcs {
         let k = arcs - 1 - j;
         proposal.enter(k, &arc_of(&rows[k], flow[k]));
-    }
-}
-
-/// Writes down of which arc each end is.
-fn tell_arcs(proposal: &mut Proposal, arcs: usize)
-    ensures { proposal.new ≡ proposal.old }
-{
-    proposal.tell_arcs();
-    for k in 0..arcs {
-        proposal.tell_arc(k);
     }
 }
 
@@ -522,15 +492,13 @@ fn note_each(noted: &mut Noted, places: &[u32]) {
     }
 }
 
-/// Takes over the rows and the flow of the noted arcs, and closes those that followed these rows before, when there were so
-/// many; says whether all could be.
+/// Takes over the rows and the flow of the arcs that are noted, that were added or that are gone; says whether it could.
 fn renew_all(
     proposal: &mut Proposal,
     between: &mut Between,
     noted: &Noted,
     rows: &[ArcRow],
     flow: &[i64],
-    before: usize,
 ) -> bool
     requires { length flow.now ≡ length rows.now }
     ensures { proposal.new ≡ proposal.old }
@@ -538,44 +506,22 @@ fn renew_all(
     if between.entries() != proposal.entries() {
         return false;
     }
+    let before = proposal.entered();
     for k in rows.len()..before {
-        if !close(proposal, k) {
+        take_out(proposal, between, k);
+    }
+    for k in before..rows.len() {
+        if !add(proposal, between, k, &arc_of(&rows[k], flow[k])) {
             return false;
         }
-        between.renew(proposal, k);
     }
     for k in noted.listed() {
         let k = *k as usize;
-        if k >= rows.len() {
-            continue;
-        }
-        if !proposal.renew(k, &arc_of(&rows[k], flow[k])) {
+        if k < before.min(rows.len()) && !renew(proposal, between, k, &arc_of(&rows[k], flow[k])) {
             return false;
         }
-        between.renew(proposal, k);
     }
     true
-}
-
-/// Closes an arc that is entered, and says whether it is: so it can stay where it is when its row is gone.
-fn close(proposal: &mut Proposal, k: usize) -> bool
-    ensures { proposal.new ≡ proposal.old }
-{
-    let Some(near) = proposal.link(proposal.tail_of(k)) else {
-        return false;
-    };
-    let Some(far) = proposal.link(near.opposite) else {
-        return false;
-    };
-    let closed = Arc {
-        tail: far.other,
-        head: near.other,
-        low: 0,
-        cap: 0,
-        cost: 0,
-        flow: 0,
-    };
-    proposal.renew(k, &closed)
 }
 
 /// The greatest of these potentials, or 0 if that is greater.

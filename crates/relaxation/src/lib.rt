@@ -8,6 +8,7 @@
 #![tactic(auto)]
 
 mod arc;
+mod arcs;
 mod candidates;
 mod grow;
 mod limits;
@@ -16,10 +17,12 @@ mod proposal;
 mod reach;
 mod ring;
 mod sets;
+mod span;
 mod step;
 mod windows;
 
 pub use arc::Arc;
+pub use arcs::{ArcEnds, Moved};
 pub use limits::REST_LIMIT;
 pub use link::{Link, seen};
 pub use proposal::{Ends, Proposal};

@@ -78,6 +78,19 @@ impl Link {
         }
     }
 
+    /// The end where the other one has this place.
+    pub(crate) fn facing(self, opposite: u32) -> Link
+        ensures { result.other ≡ self.other }
+    {
+        Link {
+            other: self.other,
+            opposite,
+            cost: self.cost,
+            leaving: self.leaving,
+            entering: self.entering,
+        }
+    }
+
     /// The end when so much flow more leaves the node there, where that fits.
     #[inline(always)]
     pub(crate) fn moved(self, amount: i64) -> Option<Link>

@@ -6,7 +6,7 @@ use crate::free::FreeEnds;
 use crate::front::{Front, Meeting};
 use crate::length::FAR;
 use containers::{Nodes, Noted, Places, both};
-use relaxation::Proposal;
+use relaxation::{Moved, Proposal};
 use std::alloc::{AllocError, Global};
 use std::marker::Model;
 
@@ -158,6 +158,15 @@ impl Between {
         ensures { self.new ≡ self.old }
     {
         self.free.renew(proposal, proposal.tail_of(k));
+    }
+
+    /// Takes over which end of an arc got another place of a proposal, if one did.
+    pub fn follow(&mut self, moved: Option<Moved>)
+        ensures { self.new ≡ self.old }
+    {
+        if let Some(moved) = moved {
+            self.free.follow(moved);
+        }
     }
 
     /// Pushes along shortest paths until one side is empty or the sides do not meet, or else until the readings are used

@@ -2,7 +2,7 @@
 
 ghost use Rattle.std.specs.Prelude.{◌≡◌, ◌<◌, ◌^◌, IfOk, IsTrue};
 
-use relaxation::{Link, Proposal};
+use relaxation::{Link, Moved, Proposal};
 use std::alloc::{AllocError, Global};
 use std::marker::Model;
 
@@ -185,6 +185,19 @@ impl FreeEnds {
         }
     }
 
+    /// Takes over that an end of an arc got another place of a proposal.
+    pub fn follow(&mut self, moved: Moved)
+        ensures { self.new ≡ self.old }
+    {
+        let spot = self.spot(moved.from);
+        self.note_spot(moved.from, NONE);
+        self.note_spot(moved.to, spot);
+        let at = spot as usize;
+        if at < self.ends.len() {
+            self.ends[at].opposite = moved.to;
+        }
+    }
+
     /// Adds an end at a node.
     fn add(&mut self, v: usize, link: &Link)
         requires { v < self.old }
@@ -237,18 +250,23 @@ impl FreeEnds {
         ensures { self.new ≡ self.old }
     {
         let spot = self.spot(opposite);
-        let Some(end) = self.at(spot) else {
-            return;
-        };
-        self.note_spot(opposite, NONE);
         let at = spot as usize;
-        if at < self.nodes {
-            self.ends[at].other = NONE;
+        if at >= self.ends.len() {
             return;
         }
-        self.lead_on(end.before, end.next);
-        self.lead_back(end.next, end.before);
-        self.give_place(spot);
+        if at < self.nodes {
+            self.ends[at].other = NONE;
+        } else {
+            let end = self.ends[at];
+            self.ends[at].next = self.spare;
+            self.spare = spot;
+            let before = end.before as usize;
+            if before < self.ends.len() {
+                self.ends[before].next = end.next;
+            }
+            self.lead_back(end.next, end.before);
+        }
+        self.note_spot(opposite, NONE);
     }
 
     /// Where the end is of which the arc's other end has this place.
@@ -266,27 +284,6 @@ impl FreeEnds {
         let opposite = opposite as usize;
         if opposite < self.spots.len() {
             self.spots[opposite] = spot;
-        }
-    }
-
-    /// Puts a place before the others that are in no chain.
-    fn give_place(&mut self, place: u32)
-        ensures { self.new ≡ self.old }
-    {
-        let at = place as usize;
-        if at < self.ends.len() {
-            self.ends[at].next = self.spare;
-            self.spare = place;
-        }
-    }
-
-    /// Leads the chain on from the end at a place, if it is one, to the next one.
-    fn lead_on(&mut self, place: u32, next: u32)
-        ensures { self.new ≡ self.old }
-    {
-        let place = place as usize;
-        if place < self.ends.len() {
-            self.ends[place].next = next;
         }
     }
 

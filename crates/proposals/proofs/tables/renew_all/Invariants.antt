@@ -6,3 +6,6 @@ invariant-loop-k l = record { proposal : l.proposal ≡ l.initial.proposal; betw
 
 abbrev pub invariant-loop-k-2 : goal.invariant-loop-k-2
 invariant-loop-k-2 l = record { proposal : l.proposal ≡ l.initial.proposal; between : l.between ≡ l.initial.between }
+
+abbrev pub invariant-loop-k-3 : goal.invariant-loop-k-3
+invariant-loop-k-3 l = record { proposal : l.proposal ≡ l.initial.proposal; between : l.between ≡ l.initial.between }

@@ -1,7 +1,0 @@
-use Rattle.std.proofs.Common.{◌≡◌, length}
-use Rattle.relaxation.specs.Limits.{potential_limit}
-use Rattle.relaxation.specs.Links.{AreWithin}
-use Rattle.relaxation.proofs.proposal.take_potentials.Given as goal
-
-abbrev pub invariant-loop-block : goal.invariant-loop-block
-invariant-loop-block l = record { same_length : length l.table ≡ length l.initial.table; within : AreWithin potential_limit l.table }
