@@ -1,38 +1,46 @@
-//! What is left of a tree that was broken: which nodes are joined still.
+//! How the nodes of a tree of labels hang together.
 //!
 //! Proved is that each call returns, and that no index leaves its range.
 
+use crate::step::Step;
+use residual_graph::Residual;
 use std::alloc::{AllocError, Global};
 
-/// How a node is joined to others. Node 0 stands for none.
+/// The residual arc by which a node hangs on another one, and the nodes that are joined to it. Node 0 stands for none.
 #[derive(Clone, Copy)]
 pub(crate) struct Joint {
-    /// The node above, by a residual arc that leaves at this end.
-    pub above: u32,
+    /// The end at which the residual arc leaves; no arc has this end where it is not known.
     pub end: u32,
-    /// The first node below, and the next one below the same node.
+    /// The node at that end, or 0 where the residual arc does not lead to this node.
+    pub above: u32,
+    pub cost: i64,
+    /// Whether it is joined to that node.
+    pub is_joined: bool,
+    pub is_reached: bool,
+    /// The first node that is joined to it, and the next one that is joined to the same node.
     pub first: u32,
     pub next: u32,
-    pub is_reached: bool,
 }
 
-/// The joints of all nodes.
+/// A node that hangs on none, and to which none is joined.
+const ALONE: Joint = Joint {
+    end: u32::MAX,
+    above: 0,
+    cost: 0,
+    is_joined: false,
+    is_reached: false,
+    first: 0,
+    next: 0,
+};
+
+/// The joints of all nodes. What stands of residual arcs in them is a copy, since the rows lie far apart.
 #[derive(Drop)]
 pub(crate) struct Forest {
     joints: Vec<Joint>,
 }
 
-/// A node that is joined to none.
-const ALONE: Joint = Joint {
-    above: 0,
-    end: 0,
-    first: 0,
-    next: 0,
-    is_reached: false,
-};
-
 impl Forest {
-    /// So many nodes.
+    /// So many nodes, all alone.
     ///
     /// # Errors
     /// Memory for a table was refused.
@@ -41,20 +49,31 @@ impl Forest {
         Ok(Forest { joints })
     }
 
-    /// Parts all nodes.
+    /// Forgets by which residual arcs all nodes hang.
     pub fn clear(&mut self) {
         self.joints.fill(ALONE);
     }
 
-    /// Joins a node to the one above it, by a residual arc that leaves at this end.
-    pub fn join(&mut self, v: u32, above: u32, end: u32) {
-        let place = v as usize;
-        let upper = above as usize;
-        if place < self.joints.len() && upper < self.joints.len() {
-            self.joints[place].above = above;
-            self.joints[place].end = end;
-            self.joints[place].next = self.joints[upper].first;
-            self.joints[upper].first = v;
+    /// Forgets that of these nodes: the rows of arcs at them may be others.
+    pub fn forget(&mut self, nodes: &[u32]) {
+        for node in nodes {
+            let v = *node as usize;
+            if v < self.joints.len() {
+                self.joints[v] = ALONE;
+            }
+        }
+    }
+
+    /// Parts all nodes.
+    pub fn part(&mut self) {
+        for v in 0..self.joints.len() {
+            self.joints[v] = Joint {
+                is_joined: false,
+                is_reached: false,
+                first: 0,
+                next: 0,
+                ..self.joints[v]
+            };
         }
     }
 
@@ -65,6 +84,37 @@ impl Forest {
             self.joints[v as usize]
         } else {
             ALONE
+        }
+    }
+
+    /// The same of a node that hangs by the residual arc that leaves at this end.
+    #[inline(always)]
+    pub fn hung(&mut self, residual: Residual<'_>, v: u32, end: u32) -> Joint {
+        let mut joint = self.joint(v);
+        if joint.end == end || v as usize >= self.joints.len() {
+            return joint;
+        }
+        joint.end = end;
+        joint.above = 0;
+        if let Some(step) = Step::at(residual, end) {
+            if step.far == v {
+                joint.above = step.start;
+                joint.cost = step.cost;
+            }
+        }
+        self.joints[v as usize] = joint;
+        joint
+    }
+
+    /// Joins a node to that on which it hangs.
+    #[inline(always)]
+    pub fn join(&mut self, v: u32) {
+        let place = v as usize;
+        let above = self.joint(v).above as usize;
+        if place < self.joints.len() && above < self.joints.len() {
+            self.joints[place].is_joined = true;
+            self.joints[place].next = self.joints[above].first;
+            self.joints[above].first = v;
         }
     }
 

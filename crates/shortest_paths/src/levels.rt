@@ -24,14 +24,10 @@ fn offer_level(on: Progress<'_>, queue: &mut Queue, end: u32)
     requires end { end / 2 < length on.graph.now.rows }
     ensures { length queue.new.entries ≡ length queue.old.entries }
 {
-    if !crosses(on, end) {
-        return;
-    }
     let arc = leaving(end);
-    let row = on.graph.row(arc.arc as usize);
-    if reduced_along(&row, on.potentials, arc.way) == 0 {
-        let start = arc.way.start(&row) as usize;
-        let far = arc.way.end(&row) as usize;
+    let far = on.graph.end(arc.arc as usize, arc.way);
+    if leads_to(on, far, end) {
+        let start = on.graph.start(arc.arc as usize, arc.way);
         let key = i64::from(on.predecessors[start].rank);
         queue.offer(far, Waiting { key, end });
     }

@@ -5,14 +5,15 @@
 //! entry a row of the graph. Flow and excess are in units of flow; costs, potentials and labels in cost a unit of flow.
 #![tactic(auto)]
 
+mod agenda;
 mod forest;
 mod labels;
 mod levels;
-mod links;
 mod predecessor;
 mod progress;
 mod rooms;
 mod search;
+mod step;
 mod tree;
 
 pub use labels::search_labels;

@@ -11,6 +11,8 @@ use std::alloc::{AllocError, Global};
 #[derive(Drop)]
 pub(crate) struct Rooms {
     ends: Vec<bool>,
+    /// The ends of the arcs that changed, some of them twice.
+    pub changed: Vec<u32>,
 }
 
 impl Rooms {
@@ -20,19 +22,15 @@ impl Rooms {
     /// Memory for a table was refused.
     pub fn new(alloc: Global, arcs: usize) -> Result<Rooms, AllocError> {
         let ends = Vec::with_capacity(alloc, arcs.saturating_mul(2))?;
-        Ok(Rooms { ends })
+        let changed = Vec::with_capacity(alloc, arcs.saturating_mul(2))?;
+        Ok(Rooms { ends, changed })
     }
 
-    /// Takes over all arcs.
-    pub fn load(&mut self, residual: Residual<'_>) {
-        self.ends.clear();
-        self.fit(residual);
-    }
-
-    /// Takes over arcs that were added, and forgets those that are no more.
-    pub fn fit(&mut self, residual: Residual<'_>) {
+    /// Takes over all arcs but the first so many, and forgets those that are no more. None counts as changed.
+    pub fn fit(&mut self, residual: Residual<'_>, known: usize) {
         let arcs = residual.graph.rows().len();
-        self.ends.truncate(arcs.saturating_mul(2));
+        self.changed.clear();
+        self.ends.truncate(known.min(arcs).saturating_mul(2));
         for k in self.ends.len() / 2..arcs {
             let arc = ResidualArc {
                 arc: k as u32,
@@ -49,11 +47,20 @@ impl Rooms {
         }
     }
 
-    /// Takes over the residual arc that leaves at an end.
-    pub fn renew(&mut self, residual: Residual<'_>, end: u32) {
-        let place = end as usize;
-        if place / 2 < residual.graph.rows().len() && place < self.ends.len() {
-            self.ends[place] = residual.graph.has_room(residual.flow, leaving(end));
+    /// Takes over these arcs, which changed.
+    pub fn renew(&mut self, residual: Residual<'_>, arcs: &[u32]) {
+        for arc in arcs {
+            for side in 0..2 {
+                let end = arc.saturating_mul(2).saturating_add(side);
+                let place = end as usize;
+                if place / 2 < residual.graph.rows().len()
+                    && place < self.ends.len()
+                    && self.changed.len() < self.changed.capacity()
+                {
+                    self.ends[place] = residual.graph.has_room(residual.flow, leaving(end));
+                    self.changed.push_reserved(end);
+                }
+            }
         }
     }
 

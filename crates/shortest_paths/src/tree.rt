@@ -3,20 +3,20 @@
 //! Proved is that each call returns, that no index, sum or cast leaves its range, and that what is held stays as it is while
 //! labels are looked for. Nothing is proved of these labels: who takes them tests them, and has them accepted.
 
-ghost use Rattle.std.specs.Prelude.{◌≡◌, ◌/◌, ◌<◌, ◌≤◌, IfOk, IfSome, length, true};
+ghost use Rattle.std.specs.Prelude.{◌≡◌, ◌<◌, ◌≤◌, IfOk, IfSome, length, true};
 ghost use Rattle.residual_graph.specs.Limits.{row_limit};
-ghost use Rattle.residual_graph.specs.Walk.{IsWithin};
 ghost use Rattle.shortest_paths.specs.Tree.{AgreeUnmarked, AreArcsNoted, IsNotedIn, IsTreeOf, StaysHeld};
 
 mod near;
 mod whole;
 
+use crate::agenda::Agenda;
 use crate::forest::Forest;
-use crate::links::Links;
-use crate::predecessor::{Predecessor, leaving};
+use crate::predecessor::Predecessor;
 use crate::rooms::Rooms;
-use containers::{Heap, both};
-use residual_graph::{End, Graph, Residual, Walk};
+use crate::step::{Step, across};
+use containers::both;
+use residual_graph::{Graph, Residual, Walk};
 use std::alloc::{AllocError, Global};
 use std::marker::Model;
 use tracked::{Touched, Tracked};
@@ -33,6 +33,17 @@ const MOST_NOTED: usize = 16;
 /// The most arcs for whose notes there is room.
 const MOST_ROWS: usize = 200_001;
 
+/// What is known of the labels.
+#[derive(Clone, Copy)]
+enum Knowledge {
+    /// They were tested, and what changed since is noted.
+    Held,
+    /// They were tested, and what changed since is noted or written, as far as is known: they can be mended.
+    Mendable,
+    /// They are to be found anew.
+    Nothing,
+}
+
 /// The labels of all nodes, and how each node got its own. A node whose predecessor no longer leads to it is loose.
 #[derive(Drop)]
 pub struct Tree {
@@ -43,28 +54,19 @@ pub struct Tree {
     noted: Touched,
     /// The nodes at the ends of these arcs.
     beside: Touched,
-    /// Whether more changed than is noted, or no labels were tested.
-    is_lost: bool,
-    /// Whether the labels can be mended all the same: what changed since is noted or written, as far as is known.
-    can_mend: bool,
-    loose: Vec<u32>,
-    /// Queued nodes whose label is above their potential by `present`, and in the heap those of which it is more.
-    ready: Vec<u32>,
-    present: i64,
+    knowledge: Knowledge,
     /// What is taken off the potentials that are likely to certify, so that none is above 0.
     taken_off: i64,
-    heap: Heap,
+    loose: Vec<u32>,
+    /// The nodes that have a label and are to be settled. A node's key is how far its label is above its potential.
+    agenda: Agenda,
     forest: Forest,
-    links: Links,
     /// As they were when the tree was mended last.
     rooms: Rooms,
-    /// How many of the ready nodes reached all that is joined to them.
-    spread: usize,
-    /// How many queued nodes are open.
-    open: usize,
 }
 
 impl Model for Tree {
+    ghost use Rattle.shortest_paths.specs.Knowledge.{is_lost_by};
     ghost use Rattle.shortest_paths.specs.Tree.{HeldView, TreeView};
 
     ghost Value = { TreeView };
@@ -77,7 +79,7 @@ impl Model for Tree {
         predecessors = t.predecessors.kept;
         noted = t.noted;
         beside = t.beside;
-        is_lost = t.is_lost;
+        is_lost = is_lost_by t.knowledge;
       };
     } };
 
@@ -106,42 +108,28 @@ impl Tree {
         ensures lost { IfOk result (λ t. t.held.is_lost ≡ true) }
     {
         let labels = filled(alloc, 0, entries);
-        let predecessors = filled(alloc, Predecessor::open(), entries);
+        let predecessors = filled(alloc, Predecessor::root(), entries);
         let noted = Touched::new(alloc, arcs.min(MOST_ROWS));
         let beside = Touched::new(alloc, entries);
-        let queues = both(
-            Vec::with_capacity(alloc, entries),
-            Vec::with_capacity(alloc, entries),
-        );
-        let heap = Heap::opened(alloc, entries);
-        let forests = both(
-            both(Forest::new(alloc, entries), Links::new(alloc, entries)),
-            Rooms::new(alloc, arcs.min(MOST_ROWS)),
-        );
-        let (
-            (labels, predecessors),
-            ((noted, beside), ((loose, ready), (heap, ((forest, links), rooms)))),
-        ) = both(
-            both(labels, predecessors),
-            both(both(noted, beside), both(queues, both(heap, forests))),
+        let loose = Vec::with_capacity(alloc, entries);
+        let agenda = Agenda::new(alloc, entries);
+        let forest = Forest::new(alloc, entries);
+        let rooms = Rooms::new(alloc, arcs.min(MOST_ROWS));
+        let (((labels, predecessors), (noted, beside)), ((loose, agenda), (forest, rooms))) = both(
+            both(both(labels, predecessors), both(noted, beside)),
+            both(both(loose, agenda), both(forest, rooms)),
         )?;
         Ok(Tree {
             labels,
             predecessors,
             noted,
             beside,
-            is_lost: true,
-            can_mend: false,
-            loose,
-            ready,
-            present: 0,
+            knowledge: Knowledge::Nothing,
             taken_off: 0,
-            heap,
+            loose,
+            agenda,
             forest,
-            links,
             rooms,
-            spread: 0,
-            open: 0,
         })
     }
 
@@ -196,7 +184,10 @@ impl Tree {
     pub fn is_lost(&self) -> bool
         ensures { result ≡ self.now.held.is_lost }
     {
-        self.is_lost
+        match self.knowledge {
+            Knowledge::Held => false,
+            Knowledge::Mendable | Knowledge::Nothing => true,
+        }
     }
 
     /// Notes that an arc may have got another row or another flow, and the nodes at its ends. A place past the rows stands for
@@ -231,7 +222,7 @@ impl Tree {
         ensures held { StaysHeld self.old.held self.new.held }
         ensures noted { AreArcsNoted graph.now.rows places.now self.new.held }
     {
-        if self.is_lost && self.noted.places().is_empty() && are_many(graph, places) {
+        if self.is_lost() && self.noted.places().is_empty() && are_many(graph, places) {
             return;
         }
         for place in places {
@@ -250,8 +241,7 @@ impl Tree {
     pub fn forget(&mut self)
         ensures { self.new ≡ record self.old { held = record self.old.held { is_lost = true } } }
     {
-        self.is_lost = true;
-        self.can_mend = false;
+        self.knowledge = Knowledge::Nothing;
     }
 
     /// Holds the labels, which were tested; the flow of these arcs may be brought back. Where many arcs were written nothing is
@@ -267,11 +257,12 @@ impl Tree {
         self.predecessors.snapshot();
         self.noted.clear();
         self.beside.clear();
-        self.can_mend = true;
-        self.is_lost = are_many(graph, written);
-        if !self.is_lost {
-            self.note_all(graph, written);
+        if are_many(graph, written) {
+            self.knowledge = Knowledge::Mendable;
+            return;
         }
+        self.knowledge = Knowledge::Held;
+        self.note_all(graph, written);
     }
 
     /// Finds all labels anew, from all nodes with label 0. Says whether all may be right.
@@ -283,14 +274,13 @@ impl Tree {
         if self.labels.entries().len() != nodes {
             return false;
         }
-        self.begin();
-        self.rooms.load(residual);
-        self.links.clear();
+        self.agenda.clear();
+        self.forest.clear();
+        self.rooms.fit(residual, 0);
         for v in 0..nodes {
-            self.put(v, 0, Predecessor::open());
-            self.queue(v as u32, 0_i64.saturating_sub(self.potential(residual, v)));
+            self.wait(residual, v as u32, 0, Predecessor::root());
         }
-        self.settle_all(residual)
+        self.settle_at_most(residual, nodes * MOST_SETTLED, true)
     }
 
     /// Mends the tree where arcs are noted or are among these, also where nothing is held. Says whether all labels may be right
@@ -299,17 +289,17 @@ impl Tree {
         ensures sized { length self.new.labels ≡ length self.old.labels }
         ensures held { self.new.held ≡ self.old.held }
     {
-        if !self.can_mend || self.labels.entries().len() != residual.potentials.len() {
+        if self.labels.entries().len() != residual.potentials.len() {
             return false;
         }
-        self.links.forget_all(self.beside.places());
-        self.rooms.fit(residual);
-        for i in 0..self.changes(written) {
-            if let Some(end) = self.changed_end(residual, written, i) {
-                self.rooms.renew(residual, end);
-            }
+        if let Knowledge::Nothing = self.knowledge {
+            return false;
         }
-        self.mend_there(residual, written) || self.mend_whole(residual, written)
+        self.forest.forget(self.beside.places());
+        self.rooms.fit(residual, usize::MAX);
+        self.rooms.renew(residual, self.noted.places());
+        self.rooms.renew(residual, written);
+        self.mend_near(residual) || self.mend_whole(residual)
     }
 
     /// The potential of a node that is likely to certify the flow.
@@ -321,6 +311,7 @@ impl Tree {
     }
 
     /// Gives a node a label and a predecessor.
+    #[inline(always)]
     fn put(&mut self, v: usize, label: i64, predecessor: Predecessor)
         requires node { v < length self.old.labels }
         ensures sized { length self.new.labels ≡ length self.old.labels }
@@ -330,68 +321,28 @@ impl Tree {
         self.predecessors.set(v, predecessor);
     }
 
-    /// Begins with no loose node and none that is queued.
-    fn begin(&mut self)
-        ensures { self.new ≡ self.old }
+    /// The predecessor of a node to which a residual arc leads from this one, where it leaves at this end.
+    #[inline(always)]
+    fn beyond(&self, u: u32, end: u32) -> Predecessor
+        requires node { u < length self.now.labels }
     {
-        self.loose.clear();
-        self.ready.clear();
-        self.present = 0;
-        self.heap.clear();
-        self.spread = 0;
-        self.open = 0;
-    }
-
-    /// How many residual arcs may have changed: two along each arc that is noted or is among these.
-    fn changes(&self, written: &[u32]) -> usize {
-        let arcs = self.noted.places().len().saturating_add(written.len());
-        arcs.saturating_mul(2)
-    }
-
-    /// The end at which the residual arc of this number among them leaves.
-    fn changed_end(&self, residual: Residual<'_>, written: &[u32], i: usize) -> Option<u32>
-        ensures { IfSome result (λ end. end / 2 < length residual.entry.graph.now.rows) }
-    {
-        let noted = self.noted.places();
-        let place = i / 2;
-        let k = if place < noted.len() {
-            noted[place]
-        } else {
-            entry(written, place - noted.len())
-        };
-        let end = k.saturating_mul(2).saturating_add(u32::from(i % 2 == 1));
-        if end as usize / 2 >= residual.graph.rows().len() {
-            return None;
+        Predecessor {
+            end,
+            rank: self.predecessors.get(u as usize).rank.saturating_add(1),
+            is_open: false,
         }
-        Some(end)
     }
 
-    /// The label to which the residual arc leads that leaves at an end.
-    fn label_by(&self, residual: Residual<'_>, end: u32) -> i64
-        requires sized { IsTreeOf residual self.now }
-        requires end { end / 2 < length residual.graph.now.rows }
+    /// The label to which a residual arc leads.
+    fn label_by(&self, step: Step) -> i64
+        requires start { step.start < length self.now.labels }
     {
-        let arc = leaving(end);
-        let row = residual.graph.row(arc.arc as usize);
-        let start = arc.way.start(&row) as usize;
         self.labels
-            .get(start)
-            .saturating_add(arc.way.unit_cost(&row))
+            .get(step.start as usize)
+            .saturating_add(step.cost)
     }
 
-    /// Whether the residual arc that enters a node at this end has room, and leads to the node at its label.
-    fn is_tight(&self, residual: Residual<'_>, v: u32, end: End) -> bool
-        requires sized { IsTreeOf residual self.now }
-        requires node { v < length residual.potentials.now }
-        requires end { IsWithin residual.graph.now end }
-        ensures { end.other < length self.now.labels }
-    {
-        let label = self.labels.get(end.other as usize);
-        label.saturating_sub(end.cost) == self.labels.get(v as usize)
-            && self.rooms.is_open(across(end.number))
-    }
-
-    /// Queues the loose nodes.
+    /// Has the loose nodes wait.
     fn hang_all(&mut self, residual: Residual<'_>)
         requires sized { IsTreeOf residual self.old }
         ensures sized { IsTreeOf residual.entry self.new }
@@ -399,155 +350,65 @@ impl Tree {
     {
         for i in 0..self.loose.len() {
             let v = entry(&self.loose, i);
-            self.hang(residual, v);
-        }
-    }
-
-    /// Queues a loose node with the least label that it can have by a residual arc from a node that is not queued.
-    fn hang(&mut self, residual: Residual<'_>, v: u32)
-        requires sized { IsTreeOf residual self.old }
-        ensures sized { IsTreeOf residual.entry self.new }
-        ensures held { self.new.held ≡ self.old.held }
-    {
-        if v as usize >= self.labels.entries().len() {
-            return;
-        }
-        // No label is below the node's potential, if the potentials certify the flow.
-        let least = self.potential(residual, v as usize);
-        let mut label = 0;
-        let mut predecessor = Predecessor::open();
-        let mut walk = Walk::at(residual.graph, v);
-        while let Some(end) = walk.next() {
-            if self.leads_below(residual, end, label) {
-                label = self.labels.get(end.other as usize).saturating_sub(end.cost);
-                let rank = self.predecessors.get(end.other as usize).rank;
-                predecessor = after(across(end.number), rank);
-                if label <= least {
-                    break;
-                }
+            if (v as usize) < residual.potentials.len() {
+                self.hang(residual, v);
             }
         }
-        self.put(v as usize, label, predecessor);
-        self.queue(v, label.saturating_sub(least));
     }
 
-    /// Whether a residual arc enters the node at this end, from a node that is not queued, and leads below a label.
-    fn leads_below(&self, residual: Residual<'_>, end: End, label: i64) -> bool
-        requires sized { IsTreeOf residual self.now }
-        requires end { IsWithin residual.graph.now end }
-        ensures { end.other < length self.now.labels }
-    {
-        self.labels.get(end.other as usize).saturating_sub(end.cost) < label
-            && !self.predecessors.get(end.other as usize).is_open
-            && self.rooms.is_open(across(end.number))
-    }
-
-    /// Gives a node a lower label, and queues it.
-    fn improve(&mut self, residual: Residual<'_>, v: u32, label: i64, predecessor: Predecessor)
+    /// Has a loose node wait, with the least label that it can have by a residual arc from a node whose label is the last one.
+    fn hang(&mut self, residual: Residual<'_>, v: u32)
         requires sized { IsTreeOf residual self.old }
         requires node { v < length residual.potentials.now }
         ensures sized { IsTreeOf residual.entry self.new }
         ensures held { self.new.held ≡ self.old.held }
     {
-        let place = v as usize;
-        let potential = self.potential(residual, place);
-        let key = label.saturating_sub(potential);
-        let key_before = self.labels.get(place).saturating_sub(potential);
-        let is_open = self.predecessors.get(place).is_open;
-        if key == self.present {
-            // Nothing is below: where the node is in the heap, it is passed over when it comes up there.
-            self.put(
-                place,
-                label,
-                Predecessor {
-                    is_open,
-                    ..predecessor
-                },
-            );
-            self.close(v);
-            self.list(v);
-            return;
-        }
-        self.put(place, label, predecessor);
-        // A queued node at `present` may be a ready one, which has no place in the heap, and is taken soon in any case. Its label
-        // becomes lower only where the potentials do not certify the flow.
-        if !is_open {
-            self.queue(v, key);
-        } else if key_before > self.present {
-            self.heap.lower(place, key);
-        }
-    }
-
-    /// Queues a node that is not queued.
-    fn queue(&mut self, v: u32, key: i64)
-        requires node { v < length self.old.labels }
-        ensures { self.new ≡ self.old }
-    {
-        self.open = self.open.saturating_add(1);
-        if key == self.present {
-            self.list(v);
-        } else {
-            self.heap.add(v as usize, key);
-        }
-    }
-
-    /// Lists a node as ready.
-    fn list(&mut self, v: u32)
-        ensures { self.new ≡ self.old }
-    {
-        if self.ready.len() < self.ready.capacity() {
-            self.ready.push_reserved(v);
-        }
-    }
-
-    /// Takes a queued node whose label is the least above its potential.
-    fn take_first(&mut self) -> Option<u32>
-        ensures sized { length self.new.labels ≡ length self.old.labels }
-        ensures held { self.new.held ≡ self.old.held }
-    {
-        if let Some(u) = self.ready.pop() {
-            self.close(u);
-            return Some(u);
-        }
-        for _ in 0..self.labels.entries().len() {
-            self.present = self.heap.least();
-            let first = self.heap.take()? as u32;
-            if self.close(first) {
-                return Some(first);
+        // No label is below the node's potential, if the potentials certify the flow.
+        let least = self.potential(residual, v as usize);
+        let mut label = 0;
+        let mut predecessor = Predecessor::root();
+        let mut walk = Walk::at(residual.graph, v);
+        while let Some(end) = walk.next() {
+            let by = self.labels.get(end.other as usize).saturating_sub(end.cost);
+            if by < label
+                && !self.agenda.waits(end.other)
+                && self.rooms.is_open(across(end.number))
+            {
+                label = by;
+                predecessor = self.beyond(end.other, across(end.number));
+                if label <= least {
+                    break;
+                }
             }
         }
-        None
+        self.wait(residual, v, label, predecessor);
     }
 
-    /// Closes a node, whose label is the last one now, and says whether it was open.
-    fn close(&mut self, v: u32) -> bool
-        ensures sized { length self.new.labels ≡ length self.old.labels }
+    /// Gives a node a label, lower than that with which it waits if it does, and has it wait.
+    #[inline(always)]
+    fn wait(&mut self, residual: Residual<'_>, v: u32, label: i64, predecessor: Predecessor)
+        requires sized { IsTreeOf residual self.old }
+        requires node { v < length residual.potentials.now }
+        ensures sized { IsTreeOf residual.entry self.new }
         ensures held { self.new.held ≡ self.old.held }
     {
-        let place = v as usize;
-        if place >= self.labels.entries().len() || !self.predecessors.get(place).is_open {
-            return false;
-        }
-        self.open = self.open.saturating_sub(1);
-        let closed = Predecessor {
-            is_open: false,
-            ..self.predecessors.get(place)
-        };
-        self.predecessors.set(place, closed);
-        true
+        let key = label.saturating_sub(self.potential(residual, v as usize));
+        self.put(v as usize, label, predecessor);
+        self.agenda.add(v, key);
     }
 
-    /// Settles the queued nodes until none is open, and says whether it came to that. All others have their last label.
-    fn settle_all(&mut self, residual: Residual<'_>) -> bool
+    /// Settles nodes that wait, so many at most, and says whether all labels are the last ones. `others_are_last` says whether
+    /// those of the nodes that do not wait are: then the ready ones improve none but others that wait.
+    fn settle_at_most(&mut self, residual: Residual<'_>, most: usize, others_are_last: bool) -> bool
         requires sized { IsTreeOf residual self.old }
         ensures sized { IsTreeOf residual.entry self.new }
         ensures held { self.new.held ≡ self.old.held }
     {
-        for _ in 0..self.labels.entries().len() * MOST_SETTLED {
-            if self.open == 0 {
+        for _ in 0..most {
+            if others_are_last && self.agenda.waiting() == 0 {
                 return true;
             }
-            let Some(u) = self.take_first() else {
+            let Some(u) = self.agenda.take() else {
                 return true;
             };
             self.settle(residual, u);
@@ -555,21 +416,19 @@ impl Tree {
         false
     }
 
-    /// Settles a node, and improves the labels to which the residual arcs from it lead.
+    /// Settles a node: improves the labels to which the residual arcs from it lead.
     fn settle(&mut self, residual: Residual<'_>, u: u32)
         requires sized { IsTreeOf residual self.old }
+        requires node { u < length residual.potentials.now }
         ensures sized { IsTreeOf residual.entry self.new }
         ensures held { self.new.held ≡ self.old.held }
     {
-        if u as usize >= self.labels.entries().len() {
-            return;
-        }
         let mut walk = Walk::at(residual.graph, u);
         while let Some(end) = walk.next() {
             let label = self.labels.get(u as usize).saturating_add(end.cost);
             if label < self.labels.get(end.other as usize) && self.rooms.is_open(end.number) {
-                let predecessor = after(end.number, self.predecessors.get(u as usize).rank);
-                self.improve(residual, end.other, label, predecessor);
+                let predecessor = self.beyond(u, end.number);
+                self.wait(residual, end.other, label, predecessor);
             }
         }
     }
@@ -583,18 +442,4 @@ fn are_many(graph: &Graph, places: &[u32]) -> bool {
 /// The entry at a place of a list, or a number that is no place of any table.
 fn entry(list: &[u32], i: usize) -> u32 {
     if i < list.len() { list[i] } else { u32::MAX }
-}
-
-/// The end at the other node of an arc.
-fn across(end: u32) -> u32 {
-    end ^ 1
-}
-
-/// A queued node whose predecessor has this rank; the residual arc to it leaves at this end.
-fn after(end: u32, rank: u32) -> Predecessor {
-    Predecessor {
-        end,
-        rank: rank.saturating_add(1),
-        is_open: true,
-    }
 }

@@ -1,11 +1,11 @@
 //! The tree of labels mended near the arcs that changed, where few nodes are to be looked at.
 
-ghost use Rattle.std.specs.Prelude.{◌≡◌, ◌/◌, ◌<◌, length};
-ghost use Rattle.residual_graph.specs.Walk.{IsWithin};
+ghost use Rattle.std.specs.Prelude.{◌≡◌, ◌<◌, length};
 ghost use Rattle.shortest_paths.specs.Tree.{IsTreeOf};
 
-use super::{FAR, Tree, across, after};
-use crate::predecessor::{Predecessor, leaving};
+use super::{FAR, Tree, entry};
+use crate::predecessor::Predecessor;
+use crate::step::{Step, across};
 use residual_graph::{Residual, Walk};
 
 /// While fewer nodes are loose, one that lost its predecessor is hung on another node at the same label, if there is
@@ -23,53 +23,53 @@ const MOST_MOVED: usize = 8;
 
 impl Tree {
     /// Mends the tree there, if few nodes are to be looked at, and says whether that was so.
-    pub(super) fn mend_there(&mut self, residual: Residual<'_>, written: &[u32]) -> bool
+    pub(super) fn mend_near(&mut self, residual: Residual<'_>) -> bool
         requires sized { IsTreeOf residual self.old }
         ensures sized { IsTreeOf residual.entry self.new }
         ensures held { self.new.held ≡ self.old.held }
     {
-        self.begin();
-        for i in 0..self.changes(written) {
-            if let Some(end) = self.changed_end(residual, written, i) {
-                self.loosen_at(residual, end);
-            }
+        self.agenda.clear();
+        self.loose.clear();
+        for i in 0..self.rooms.changed.len() {
+            let end = entry(&self.rooms.changed, i);
+            self.loosen_along(residual, end);
         }
         if !self.loosen_below(residual) {
             return false;
         }
         self.hang_all(residual);
-        for i in 0..self.changes(written) {
-            if let Some(end) = self.changed_end(residual, written, i) {
-                self.improve_by(residual, end);
-            }
+        for i in 0..self.rooms.changed.len() {
+            let end = entry(&self.rooms.changed, i);
+            self.improve_along(residual, end);
         }
-        self.settle_few(residual)
+        let nodes = residual.potentials.len();
+        self.settle_at_most(residual, nodes / SOME_LOOSE, false)
+            || (!self.have_many_moved(residual)
+                && self.settle_at_most(residual, nodes / MOST_LOOSE, false))
     }
 
     /// Loosens the node that hangs on the residual arc that leaves at an end, unless that still leads to it, and its label is
     /// no lower than by it.
-    fn loosen_at(&mut self, residual: Residual<'_>, end: u32)
+    fn loosen_along(&mut self, residual: Residual<'_>, end: u32)
         requires sized { IsTreeOf residual self.old }
-        requires end { end / 2 < length residual.graph.now.rows }
         ensures sized { IsTreeOf residual.entry self.new }
         ensures held { self.new.held ≡ self.old.held }
     {
-        let arc = leaving(end);
-        let v = residual.graph.end(arc.arc as usize, arc.way);
-        if !self.hangs(v, end) {
+        let Some(step) = Step::at(residual, end) else {
             return;
+        };
+        let label = self.labels.get(step.far as usize);
+        let leads = self.rooms.is_open(end) && self.label_by(step) <= label;
+        if self.hangs(step.far, end) && !leads {
+            self.loosen(residual, step.far);
         }
-        if self.rooms.is_open(end) && self.labels.get(v) >= self.label_by(residual, end) {
-            return;
-        }
-        self.loosen(residual, v as u32);
     }
 
     /// Whether a node that is not loose hangs on the residual arc that leaves at this end.
-    fn hangs(&self, v: usize, end: u32) -> bool
+    fn hangs(&self, v: u32, end: u32) -> bool
         requires node { v < length self.now.labels }
     {
-        self.predecessors.get(v).end == end && self.labels.get(v) < 0
+        self.predecessors.get(v as usize).end == end && self.labels.get(v as usize) < 0
     }
 
     /// Loosens a node, unless it can hang on another one at its label while few are loose.
@@ -82,7 +82,8 @@ impl Tree {
         if self.loose.len() < FEW_LOOSE && self.rehang(residual, v) {
             return;
         }
-        if self.loose.len() < self.loose.capacity() && self.loose.push(v).is_ok() {
+        if self.loose.len() < self.loose.capacity() {
+            self.loose.push_reserved(v);
             self.labels.set(v as usize, FAR);
         }
     }
@@ -94,19 +95,29 @@ impl Tree {
         ensures sized { IsTreeOf residual.entry self.new }
         ensures held { self.new.held ≡ self.old.held }
     {
+        let label = self.labels.get(v as usize);
+        let hung = self.predecessors.get(v as usize);
+        let mut end = hung.end;
         let mut walk = Walk::at(residual.graph, v);
-        while let Some(end) = walk.next() {
-            let hung = self.predecessors.get(v as usize);
-            if self.is_tight(residual, v, end)
-                && self.predecessors.get(end.other as usize).rank < hung.rank
+        while let Some(here) = walk.next() {
+            if self
+                .labels
+                .get(here.other as usize)
+                .saturating_sub(here.cost)
+                == label
+                && self.rooms.is_open(across(here.number))
+                && self.predecessors.get(here.other as usize).rank < hung.rank
             {
-                let end = across(end.number);
-                self.predecessors
-                    .set(v as usize, Predecessor { end, ..hung });
-                return true;
+                end = across(here.number);
+                break;
             }
         }
-        false
+        if end == hung.end {
+            return false;
+        }
+        self.predecessors
+            .set(v as usize, Predecessor { end, ..hung });
+        true
     }
 
     /// Loosens the nodes that hang on loose ones, and says whether all were gone over.
@@ -115,7 +126,7 @@ impl Tree {
         ensures sized { IsTreeOf residual.entry self.new }
         ensures held { self.new.held ≡ self.old.held }
     {
-        let nodes = self.labels.entries().len();
+        let nodes = residual.potentials.len();
         for i in 0..nodes / MOST_LOOSE {
             if i >= self.loose.len() {
                 return true;
@@ -129,102 +140,64 @@ impl Tree {
         false
     }
 
-    /// Whether the potentials are further from the labels, or nearer, at many nodes than they are at most.
-    fn have_many_moved(&self, residual: Residual<'_>) -> bool
-        requires sized { IsTreeOf residual self.now }
-    {
-        let usual = self.usual_gap(residual);
-        let mut moved: usize = 0;
-        for v in 1..residual.potentials.len() {
-            if self.gap(residual, v) != usual {
-                moved = moved.saturating_add(1);
-            }
-        }
-        moved > residual.potentials.len() / MOST_MOVED
-    }
-
-    /// How far the potentials are from the labels at most nodes, if it is the same at so many.
-    fn usual_gap(&self, residual: Residual<'_>) -> i64
-        requires sized { IsTreeOf residual self.now }
-    {
-        let mut usual = 0;
-        let mut votes: usize = 0;
-        for v in 1..residual.potentials.len() {
-            let gap = self.gap(residual, v);
-            if gap == usual {
-                votes = votes.saturating_add(1);
-            } else if votes > 0 {
-                votes = votes.saturating_sub(1);
-            } else {
-                usual = gap;
-                votes = 1;
-            }
-        }
-        usual
-    }
-
-    /// How far the potential of a node is from its label.
-    #[inline(always)]
-    fn gap(&self, residual: Residual<'_>, v: usize) -> i64
-        requires sized { IsTreeOf residual self.now }
-        requires node { v < length residual.potentials.now }
-    {
-        residual.potentials[v].saturating_sub(self.labels.get(v))
-    }
-
     /// Loosens the nodes that hang on a node.
     fn loosen_beyond(&mut self, residual: Residual<'_>, u: u32)
         requires sized { IsTreeOf residual self.old }
         ensures sized { IsTreeOf residual.entry self.new }
         ensures held { self.new.held ≡ self.old.held }
     {
-        if u as usize >= self.labels.entries().len() {
-            return;
-        }
         let mut walk = Walk::at(residual.graph, u);
         while let Some(end) = walk.next() {
-            if self.hangs(end.other as usize, end.number) {
+            if self.hangs(end.other, end.number) {
                 self.loosen(residual, end.other);
             }
         }
     }
 
-    /// Improves the label to which the residual arc leads that leaves at an end.
-    fn improve_by(&mut self, residual: Residual<'_>, end: u32)
-        requires sized { IsTreeOf residual self.old }
-        requires end { end / 2 < length residual.graph.now.rows }
-        ensures sized { IsTreeOf residual.entry self.new }
-        ensures held { self.new.held ≡ self.old.held }
-    {
-        if !self.rooms.is_open(end) {
-            return;
+    /// Whether the potentials are further from the labels, or nearer, at many nodes than they are at most.
+    fn have_many_moved(&self, residual: Residual<'_>) -> bool {
+        let labels = self.labels.entries();
+        let usual = usual_gap(residual.potentials, labels);
+        let mut moved: usize = 0;
+        for (potential, label) in residual.potentials.iter().zip(labels) {
+            if potential.saturating_sub(*label) != usual {
+                moved = moved.saturating_add(1);
+            }
         }
-        let arc = leaving(end);
-        let start = residual.graph.start(arc.arc as usize, arc.way);
-        let far = residual.graph.end(arc.arc as usize, arc.way);
-        let label = self.label_by(residual, end);
-        if label < self.labels.get(far) {
-            let predecessor = after(end, self.predecessors.get(start).rank);
-            self.improve(residual, far as u32, label, predecessor);
-        }
+        moved > labels.len() / MOST_MOVED
     }
 
-    /// Settles the queued nodes, and says whether these were few.
-    fn settle_few(&mut self, residual: Residual<'_>) -> bool
+    /// Improves the label to which the residual arc leads that leaves at an end.
+    fn improve_along(&mut self, residual: Residual<'_>, end: u32)
         requires sized { IsTreeOf residual self.old }
         ensures sized { IsTreeOf residual.entry self.new }
         ensures held { self.new.held ≡ self.old.held }
     {
-        let nodes = self.labels.entries().len();
-        for i in 0..nodes / MOST_LOOSE {
-            if i == nodes / SOME_LOOSE && self.have_many_moved(residual) {
-                return false;
-            }
-            let Some(u) = self.take_first() else {
-                return true;
-            };
-            self.settle(residual, u);
+        let Some(step) = Step::at(residual, end) else {
+            return;
+        };
+        let label = self.label_by(step);
+        if self.rooms.is_open(end) && label < self.labels.get(step.far as usize) {
+            let predecessor = self.beyond(step.start, end);
+            self.wait(residual, step.far, label, predecessor);
         }
-        false
     }
+}
+
+/// How far potentials are from labels at most nodes, if it is the same at so many.
+fn usual_gap(potentials: &[i64], labels: &[i64]) -> i64 {
+    let mut usual = 0;
+    let mut votes: usize = 0;
+    for (potential, label) in potentials.iter().zip(labels) {
+        let gap = potential.saturating_sub(*label);
+        if gap == usual {
+            votes = votes.saturating_add(1);
+        } else if votes > 0 {
+            votes = votes.saturating_sub(1);
+        } else {
+            usual = gap;
+            votes = 1;
+        }
+    }
+    usual
 }

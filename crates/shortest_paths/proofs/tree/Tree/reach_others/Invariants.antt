@@ -1,6 +1,12 @@
 use Rattle.std.proofs.Common.{◌≡◌, length}
 use Rattle.shortest_paths.proofs.tree.Tree.reach_others.Given as goal
 
+abbrev pub invariant-loop-place : goal.invariant-loop-place
+invariant-loop-place l = record {
+  sized : length l.self.labels ≡ length l.residual.potentials.now;
+  held : l.self.held ≡ l.initial.self.held;
+}
+
 abbrev pub invariant-loop-v : goal.invariant-loop-v
 invariant-loop-v l = record {
   sized : length l.self.labels ≡ length l.residual.potentials.now;

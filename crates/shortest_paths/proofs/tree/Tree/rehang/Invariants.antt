@@ -1,12 +1,10 @@
-use Rattle.std.proofs.Common.{◌≡◌, length}
+use Rattle.std.proofs.Common.{◌≡◌}
 use Rattle.shortest_paths.proofs.tree.Tree.rehang.Given as goal
 
-abbrev pub invariant-loop-end : goal.invariant-loop-end
-invariant-loop-end l = record {
-  sized : length l.self.labels ≡ length l.residual.potentials.now;
-  held : l.self.held ≡ l.initial.self.held;
+abbrev pub invariant-loop-here : goal.invariant-loop-here
+invariant-loop-here l = record {
   graph : l.walk.graph ≡ l.residual.graph.now;
 }
 
-abbrev pub decreases-loop-end : goal.decreases-loop-end
-decreases-loop-end l = l.walk.left
+abbrev pub decreases-loop-here : goal.decreases-loop-here
+decreases-loop-here l = l.walk.left

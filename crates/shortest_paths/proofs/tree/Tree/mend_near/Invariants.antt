@@ -1,5 +1,5 @@
 use Rattle.std.proofs.Common.{◌≡◌, length}
-use Rattle.shortest_paths.proofs.tree.Tree.mend_there.Given as goal
+use Rattle.shortest_paths.proofs.tree.Tree.mend_near.Given as goal
 
 abbrev pub invariant-loop-i : goal.invariant-loop-i
 invariant-loop-i l = record {

@@ -1,8 +1,8 @@
 use Rattle.std.proofs.Common.{◌≡◌, length}
-use Rattle.shortest_paths.proofs.tree.Tree.settle_all.Given as goal
+use Rattle.shortest_paths.proofs.tree.Tree.relabel_all.Given as goal
 
-abbrev pub invariant-loop : goal.invariant-loop
-invariant-loop l = record {
+abbrev pub invariant-loop-v-2 : goal.invariant-loop-v-2
+invariant-loop-v-2 l = record {
   sized : length l.self.labels ≡ length l.residual.potentials.now;
   held : l.self.held ≡ l.initial.self.held;
 }

@@ -1,8 +1,0 @@
-use Rattle.std.proofs.Common.{◌≡◌, length}
-use Rattle.shortest_paths.proofs.tree.Tree.relabel.Given as goal
-
-abbrev pub invariant-loop-v : goal.invariant-loop-v
-invariant-loop-v l = record {
-  sized : length l.self.labels ≡ length l.residual.potentials.now;
-  held : l.self.held ≡ l.initial.self.held;
-}
