@@ -259,7 +259,7 @@ def wrong_rows(readme, architecture):
     known, wrong, count = {crate: functions(crate) for crate in CRATES}, [], 0
     for page, rows, end in [
         ("README", re.findall(r"(?m)^\| (`.*\|)$", readme), "|"),
-        ("ARCHITECTURE", re.findall(r"(?m)^- (`.*)$", architecture.split("## The repository")[0]), ":"),
+        ("ARCHITECTURE", re.findall(r"(?m)^- (`.*)$", architecture.split("## One run")[0]), ":"),
     ]:
         rows = [(re.findall(NAME, row.split(end)[0]), row) for row in rows]
         for crate in CRATES:
