@@ -140,4 +140,12 @@ impl Problem {
     {
         self.arcs.as_slice()
     }
+
+    /// The same of a problem that is given up: the table itself.
+    pub fn into_arcs(self) -> Vec<ArcRow>
+        ensures { result.items ≡ self.arcs }
+    {
+        let Problem { arcs, .. } = self;
+        arcs
+    }
 }

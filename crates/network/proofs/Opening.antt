@@ -195,7 +195,7 @@ first_lawful problem extra is = record {
   room = omega arith;
 }
 
--- ---- an instance without arcs
+-- ---- what a problem's network begins with
 
 abbrev pub made : ProblemValue → List ℤ
 made problem = made_supplies problem.kind problem.nodes problem.marks
@@ -204,23 +204,16 @@ pub made-length : (problem : ProblemValue) → length (made problem) ≡ problem
 made-length problem = length-map-range_with_len _ 1 problem.nodes
 
 pub instance_is : (problem : ProblemValue) (extra : ℕ) → IsProblem problem.kind problem.nodes problem.marks problem.arcs
-    → instance_of (length (made problem)) (goal_of problem.kind problem.marks) (made problem) [] (first problem extra).room ≡ record (first problem extra) { arcs = [] }
+    → instance_of (length (made problem)) (goal_of problem.kind problem.marks) (made problem) problem.arcs (first problem extra).room ≡ first problem extra
 instance_is problem extra is =
     rw (made-length problem, demand_is problem.kind problem.nodes problem.marks (of_kind problem.kind problem.nodes problem.marks problem.arcs is)) refl
 
 pub is_start : (problem : ProblemValue) (extra : ℕ) → IsProblem problem.kind problem.nodes problem.marks problem.arcs
-    → CanBegin (goal_of problem.kind problem.marks) (made problem) (first problem extra).room
+    → CanBegin (goal_of problem.kind problem.marks) (made problem) problem.arcs (first problem extra).room
 is_start problem extra is =
     let all = of_kind problem.kind problem.nodes problem.marks problem.arcs is in
-    let full = first_lawful problem extra is in
     record {
-      lawful = rw (instance_is problem extra is) (record {
-        nodes = full.nodes;
-        demand = full.demand;
-        arcs = λ k d below. absurd (omega arith);
-        count = omega arith;
-        room = full.room;
-      });
+      lawful = rw (instance_is problem extra is) (first_lawful problem extra is);
       supply_is = λ v least most.
           rw (demand_is problem.kind problem.nodes problem.marks all) (supply_is problem.kind problem.nodes problem.marks v all least (let len = made-length problem in omega arith));
       small = made-within problem.kind problem.nodes problem.marks (recursion_from_All (IsLawfulMark problem.nodes) problem.marks is.lawful.each_mark);

@@ -30,11 +30,11 @@ front_few LeastCost = omega arith
 front_few (GreatestFlow source sink) = omega arith
 front_few Assignment = omega arith
 
--- the rows where there is no arc
-pub begun : (goal : Goal) (supplies : List ℤ) → return_rows goal ≡ reduced_arcs (demand_by goal supplies) []
-begun LeastCost supplies = refl
-begun (GreatestFlow source sink) supplies = refl
-begun Assignment supplies = refl
+-- the rows of these arcs
+pub begun : (goal : Goal) (supplies : List ℤ) (arcs : List ArcRow) → return_rows goal ++ arcs ≡ reduced_arcs (demand_by goal supplies) arcs
+begun LeastCost supplies arcs = refl
+begun (GreatestFlow source sink) supplies arcs = refl
+begun Assignment supplies arcs = refl
 
 -- the arcs among the rows of these arcs
 arcs_among : (goal : Goal) (supplies : List ℤ) (arcs : List ArcRow) → arcs_in goal (reduced_arcs (demand_by goal supplies) arcs) ≡ arcs
@@ -55,7 +55,7 @@ module _ (goal : Goal) (supplies : List ℤ) (rows arcs : List ArcRow) (are : ro
   -- a network of these arcs
   pub sound_of : (nodes room : ℕ) (first next : List (Option ℕ)) (rows_room next_room : ℕ) → IsLawful (instance_of nodes goal supplies arcs room) → length supplies ≡ nodes
       → ((v : ℕ) → 1 ≤ v → v ≤ nodes → at_node supplies v ≡ reduced_supply (demand_by goal supplies) v) → All (IsWithin SUPPLY_LIMIT) supplies
-      → AreEndLists nodes arcs first next → room + 1 ≤ rows_room → 2 * room ≤ next_room → IsSound nodes goal supplies rows room first next rows_room next_room
+      → AreEndLists nodes arcs first next → front goal + room ≤ rows_room → 2 * room ≤ next_room → IsSound nodes goal supplies rows room first next rows_room next_room
   sound_of nodes room first next rows_room next_room lawful sized supply_is small lists rows_fit ends_fit = record {
     rows_are = rows_again;
     lawful = subst (λ (a : List ArcRow). IsLawful (instance_of nodes goal supplies a room)) (sym arcs_are) lawful;

@@ -47,11 +47,11 @@ pub record IsSound (nodes : ℕ) (goal : Goal) (supplies : List ℤ) (rows : Lis
   pub supply_is : (v : ℕ) → 1 ≤ v → v ≤ nodes → at_node supplies v ≡ reduced_supply (demand_by goal supplies) v
   pub supplies_small : All (IsWithin SUPPLY_LIMIT) supplies
   pub lists : AreEndLists nodes (arcs_in goal rows) first next
-  pub rows_fit : room + 1 ≤ rows_room
+  pub rows_fit : front goal + room ≤ rows_room
   pub ends_fit : 2 * room ≤ next_room
 
--- an instance without arcs may begin so
-pub record CanBegin (goal : Goal) (supplies : List ℤ) (room : ℕ) : Type 0 where
-  pub lawful : IsLawful (instance_of (length supplies) goal supplies [] room)
+-- an instance may begin so
+pub record CanBegin (goal : Goal) (supplies : List ℤ) (arcs : List ArcRow) (room : ℕ) : Type 0 where
+  pub lawful : IsLawful (instance_of (length supplies) goal supplies arcs room)
   pub supply_is : (v : ℕ) → 1 ≤ v → v ≤ length supplies → at_node supplies v ≡ reduced_supply (demand_by goal supplies) v
   pub small : All (IsWithin SUPPLY_LIMIT) supplies

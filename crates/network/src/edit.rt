@@ -1,11 +1,12 @@
 //! How an instance is made, and how it grows.
-ghost use Rattle.std.specs.Prelude.{◌≡◌, ◌+◌, ◌-◌, ◌*◌, ◌<◌, ◌≤◌, [], All, IfOk, length, slice_index_or, vec_capacity, vec_len};
-ghost use Rattle.network.specs.Ends.{AddsEnd, RemovesEnd};
+ghost use Rattle.std.specs.Prelude.{◌≡◌, ◌+◌, ◌-◌, ◌*◌, ◌<◌, ◌≤◌, ◌++◌, All, IfOk, length, slice_index_or, vec_capacity, vec_len};
+ghost use Rattle.network.specs.Ends.{AddsEnd, AreEndLists, RemovesEnd};
 ghost use Rattle.dimacs_text.specs.Lawful.{IsLawfulRow, IsNode, IsWithin};
 ghost use Rattle.network.specs.Edited.{with_arc, with_last, with_node_supply};
 ghost use Rattle.network.specs.Instance.{ArcFits, at_node, kind_of};
-ghost use Rattle.network.specs.Representation.{ends_in, instance_of, return_rows, CanBegin};
+ghost use Rattle.network.specs.Representation.{ends_in, front, instance_of, return_rows, CanBegin};
 
+use crate::start::Frame;
 use crate::views::return_arc;
 use crate::{Goal, Network};
 use dimacs_text::{ARC_LIMIT, ArcRow, Kind, SUPPLY_LIMIT};
@@ -41,34 +42,59 @@ fn unlink_end(first: &mut [u32], next: &mut Vec<u32>, node: u32)
     first[node as usize - 1] = before;
 }
 
-/// A table of rows with the return arc, where there is one, and with room for so many arcs.
-fn return_row(alloc: Global, goal: Goal, room: usize) -> Result<Vec<ArcRow>, AllocError>
-    requires { room ≤ ARC_LIMIT }
-    ensures rows { IfOk result (λ rows. rows.items ≡ return_rows goal) }
-    ensures room { IfOk result (λ rows. room + 1 ≤ vec_capacity rows) }
+/// The lists of the ends of arcs at so many nodes, with room for so many arcs.
+fn list_ends(
+    alloc: Global,
+    arcs: &[ArcRow],
+    nodes: usize,
+    room: usize,
+) -> Result<(Vec<u32>, Vec<u32>), AllocError>
+    requires lawful { All (IsLawfulRow nodes) arcs.now }
+    requires count { length arcs.now ≤ room }
+    requires few { room ≤ ARC_LIMIT }
+    ensures lists { IfOk result
+        (λ lists. AreEndLists nodes arcs.now (ends_in lists.0.items) (ends_in lists.1.items)) }
+    ensures room { IfOk result (λ lists. 2 * room ≤ vec_capacity lists.1) }
 {
-    let mut rows = Vec::with_capacity(alloc, room + 1)?;
+    let mut first = vec![in alloc; 0; nodes]?;
+    let mut next = Vec::with_capacity(alloc, 2 * room)?;
+    for arc in arcs {
+        let end = next.len() as u32;
+        link_end(&mut first, &mut next, arc.tail, end);
+        link_end(&mut first, &mut next, arc.head, end + 1);
+    }
+    Ok((first, next))
+}
+
+/// The rows of these arcs: the return arc, where there is one, before them; with room for so many arcs.
+fn rows_of(goal: Goal, arcs: Vec<ArcRow>, room: usize) -> Result<Vec<ArcRow>, AllocError>
+    requires count { vec_len arcs ≤ room }
+    requires few { room ≤ ARC_LIMIT }
+    ensures rows { IfOk result (λ rows. rows.items ≡ return_rows goal ++ arcs.items) }
+    ensures room { IfOk result (λ rows. front goal + room ≤ vec_capacity rows) }
+{
+    let mut rows = arcs;
+    rows.reserve_exact(goal.return_arcs() + room - rows.len())?;
     if let Goal::GreatestFlow { source, sink } = goal {
-        rows.push(return_arc(source, sink))?;
+        rows.insert(0, return_arc(source, sink))?;
     }
     Ok(rows)
 }
 
 impl Network {
-    /// An instance without arcs. The supplies are those of the reduced instance.
-    pub(crate) fn new(
-        alloc: Global,
-        goal: Goal,
-        supplies: Vec<i64>,
-        room: usize,
-    ) -> Result<Network, AllocError>
-        requires { CanBegin goal supplies.items room }
+    /// An instance of these arcs. Their table becomes the network's.
+    pub(crate) fn new(alloc: Global, frame: Frame, arcs: Vec<ArcRow>) -> Result<Network, AllocError>
+        requires { CanBegin frame.goal frame.supplies.items arcs.items frame.room }
         ensures { IfOk result
-            (λ n. n ≡ instance_of (vec_len supplies) goal supplies.items [] room) }
+            (λ n. n ≡ instance_of (vec_len frame.supplies) frame.goal frame.supplies.items arcs.items frame.room) }
     {
-        let rows = return_row(alloc, goal, room)?;
-        let next = Vec::with_capacity(alloc, 2 * room)?;
-        let first = vec![in alloc; 0; supplies.len()]?;
+        let Frame {
+            goal,
+            supplies,
+            room,
+        } = frame;
+        let (first, next) = list_ends(alloc, &arcs, supplies.len(), room)?;
+        let rows = rows_of(goal, arcs, room)?;
         Ok(Network {
             nodes: supplies.len() as u32,
             goal,

@@ -25,7 +25,7 @@ pub use limits::limits_are;
 pub use net::ends_come_once;
 pub use refusal::EditRefusal;
 pub use signs::{reduced_by, reduced_cost};
-pub use start::build;
+pub use start::{build, build_from};
 use std::marker::Model;
 
 /// The least potential, in cost a unit of flow; the greatest is 0.

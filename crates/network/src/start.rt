@@ -1,8 +1,9 @@
 //! The instance that a problem begins with.
-ghost use Rattle.std.specs.Prelude.{◌≡◌, [], All, AllPairs, IfOk, length};
+ghost use Rattle.std.specs.Prelude.{◌≡◌, All, AllPairs, IfOk, vec_len};
 ghost use Rattle.dimacs_text.specs.Lawful.{IsNode, NamesOthers};
 ghost use Rattle.dimacs_text.specs.Problem.{node_of, sink_of, source_of};
-ghost use Rattle.network.specs.Instance.{IsLawful, by_node, first};
+ghost use Rattle.network.specs.Instance.{by_node, first};
+ghost use Rattle.network.specs.Representation.{instance_of, CanBegin};
 ghost use Rattle.network.specs.Start.{goal_of, marked_supply, supply_or, unmarked_supply};
 
 use crate::{Goal, Network};
@@ -87,26 +88,46 @@ fn supplies_of(
     Ok(supplies)
 }
 
-/// The problem's instance, before its arcs are put in.
-fn without_arcs(alloc: Global, problem: &Problem, extra: u32) -> Result<Network, AllocError>
-    ensures network { IfOk result
-        (λ network. network ≡ record (first problem.now extra) { arcs = [] }) }
-    ensures lawful { IfOk result (λ network. IsLawful (first problem.now extra)) }
+/// An instance before its arcs are put in.
+#[derive(Drop)]
+pub(crate) struct Frame {
+    pub(crate) goal: Goal,
+    /// Those of the reduced instance.
+    pub(crate) supplies: Vec<i64>,
+    /// How many arcs there may be.
+    pub(crate) room: usize,
+}
+
+/// The frame of a problem, with room for `extra` arcs more, up to the limit.
+fn frame_of(alloc: Global, problem: &Problem, extra: u32) -> Result<Frame, AllocError>
+    ensures begins { IfOk result
+        (λ frame. CanBegin frame.goal frame.supplies.items problem.now.arcs frame.room) }
+    ensures instance { IfOk result
+        (λ frame. instance_of (vec_len frame.supplies) frame.goal frame.supplies.items problem.now.arcs frame.room ≡ first problem.now extra) }
 {
     let kind = problem.kind();
     let marks = problem.marks();
-    let room = (ARC_LIMIT as usize).min(problem.arcs().len() + extra as usize);
     let supplies = supplies_of(alloc, problem.nodes(), marks, unmarked_supply(kind))?;
-    Network::new(alloc, goal_of(kind, marks), supplies, room)
+    Ok(Frame {
+        goal: goal_of(kind, marks),
+        supplies,
+        room: (ARC_LIMIT as usize).min(problem.arcs().len() + extra as usize),
+    })
 }
 
 /// The network of a problem, with room for `extra` arcs more, up to the limit. All room for arcs is taken here.
 pub fn build(alloc: Global, problem: &Problem, extra: u32) -> Result<Network, AllocError>
     ensures { IfOk result (λ network. network ≡ first problem.now extra) }
 {
-    let mut network = without_arcs(alloc, problem, extra)?;
-    for row in problem.arcs() {
-        network.push_arc(*row);
-    }
-    Ok(network)
+    let frame = frame_of(alloc, problem, extra)?;
+    let arcs = Vec::from_slice(alloc, problem.arcs())?;
+    Network::new(alloc, frame, arcs)
+}
+
+/// The same of a problem that is given up: its table of arcs becomes that of the network.
+pub fn build_from(alloc: Global, problem: Problem, extra: u32) -> Result<Network, AllocError>
+    ensures { IfOk result (λ network. network ≡ first problem extra) }
+{
+    let frame = frame_of(alloc, &problem, extra)?;
+    Network::new(alloc, frame, problem.into_arcs())
 }
