@@ -12,8 +12,9 @@ use Rattle.flow_solver.specs.declared.part.Part.TheVariants.{Arc, Supply, Last, 
 use Rattle.flow_solver.specs.TablesView.{TablesView}
 use Rattle.flow_solver.specs.Edit.{AreChanges, AreMade, CanMake, IsChange, IsMade, IsMadeIn}
 use Rattle.flow_solver.specs.Moment.{Snapshot}
-use Rattle.flow_solver.specs.Part.{before_all, before_part, place_of_edit, place_of_part, AreLogged, CanTakeBack, CanTakeBackAll, InstancePlace, IsLogged, LeadsBack, TakesBack, return_count}
-use Rattle.flow_solver.proofs.TablesViewLemmas.{return_count_before}
+use Rattle.network.specs.Rows.{return_arcs}
+use Rattle.flow_solver.specs.Part.{before_all, before_part, place_of_edit, place_of_part, AreLogged, CanTakeBack, CanTakeBackAll, InstancePlace, IsLogged, LeadsBack, TakesBack}
+use Rattle.flow_solver.proofs.TablesViewLemmas.{return_arcs_before}
 
 -- ---- what the edits make
 
@@ -147,11 +148,11 @@ arcs_before (Supply v value) I can = omega arith
 arcs_before Last I can = (let less = length-take-le (length I.arcs - 1) I.arcs (omega arith) in omega (arith, less))
 arcs_before (Gone row flow) I can = absurd can
 
-pub length-rows : (D : Demand) (arcs : List ArcRow) → length (reduced_arcs D arcs) ≡ return_count D + length arcs
+pub length-rows : (D : Demand) (arcs : List ArcRow) → length (reduced_arcs D arcs) ≡ return_arcs D + length arcs
 length-rows D arcs = grind arith
 
 rows_before : (part : Part) (I : Instance) → CanTakeBack part I → length (reduced (before_part part I)).arcs ≤ length (reduced I).arcs
-rows_before part I can = omega (arith, length-rows (before_part part I).demand (before_part part I).arcs, length-rows I.demand I.arcs, return_count_before (part ∷ []) I, arcs_before part I can)
+rows_before part I can = omega (arith, length-rows (before_part part I).demand (before_part part I).arcs, length-rows I.demand I.arcs, return_arcs_before (part ∷ []) I, arcs_before part I can)
 
 rows_before_all : (log : List Part) (I : Instance) → CanTakeBackAll log I → length (reduced (before_all log I)).arcs ≤ length (reduced I).arcs
 rows_before_all [] I can = omega arith

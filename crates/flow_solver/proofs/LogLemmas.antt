@@ -14,8 +14,9 @@ use Rattle.flow_solver.specs.declared.part.Part.{Part}
 use Rattle.flow_solver.specs.declared.part.Part.TheVariants.{Arc, Supply, Last}
 use Rattle.flow_solver.specs.declared.verdict.Verdict.{Verdict}
 use Rattle.flow_solver.specs.Moment.{Snapshot}
-use Rattle.flow_solver.specs.Part.{before_all, before_of, before_part, CanTakeBack, CanTakeBackAll, IsKept, LeadsBack, return_count}
-use Rattle.flow_solver.proofs.TablesViewLemmas.{return_count_before}
+use Rattle.network.specs.Rows.{return_arcs}
+use Rattle.flow_solver.specs.Part.{before_all, before_of, before_part, CanTakeBack, CanTakeBackAll, IsKept, LeadsBack}
+use Rattle.flow_solver.proofs.TablesViewLemmas.{return_arcs_before}
 use Rattle.flow_solver.proofs.GroupLemmas.{length-rows}
 
 -- ---- the end of a log
@@ -166,8 +167,8 @@ leads_before (Some verdict) I kept is = record { can = is.0; back = refl }
 -- ---- flows
 
 -- the flow that was kept has the return arc, where there is one
-pub return_kept : (told : Option Verdict) (I : Instance) (kept : Snapshot) → IsSome (before_of told I kept) → IsKept told I kept → return_count I.demand ≤ length kept.flow
+pub return_kept : (told : Option Verdict) (I : Instance) (kept : Snapshot) → IsSome (before_of told I kept) → IsKept told I kept → return_arcs I.demand ≤ length kept.flow
 return_kept None I kept some is = cc
 return_kept (Some verdict) I kept some is =
     let J = before_all kept.log I in
-    omega (arith, is.1, length-rows J.demand J.arcs, return_count_before kept.log I)
+    omega (arith, is.1, length-rows J.demand J.arcs, return_arcs_before kept.log I)

@@ -13,7 +13,8 @@ use Rattle.flow_solver.specs.Moment.{IsWellFormed, Snapshot, Moment, kept_of}
 use Rattle.flow_solver.specs.Tables.{FitGraph, IsOfNodes}
 use Rattle.residual_graph.specs.Graph.{IsGraph}
 use Rattle.augmentation.specs.Nodes.{IsIdleEntry}
-use Rattle.flow_solver.specs.Part.{before_all, before_of, return_count}
+use Rattle.network.specs.Rows.{return_arcs}
+use Rattle.flow_solver.specs.Part.{before_all, before_of}
 use Rattle.augmentation.specs.ScratchView.{ScratchView}
 use Rattle.tracked.specs.Tracked.{IsWritten, TrackedView}
 use Rattle.residual_graph.specs.Walk.{AreRowsOf}
@@ -62,29 +63,29 @@ sized_written g h flow flow' p p' cut cut' scratch verdict t nodes of many flow_
 }
 
 -- places that name what is changed of a flow name what is changed of the numbered arcs
-named_numbered : (D : Demand) (places : List ℕ) (xs ys : List ℤ) → NameChanges 0 places xs ys → NameChanges (return_count D) places (numbered_flow D xs) (numbered_flow D ys)
+named_numbered : (D : Demand) (places : List ℕ) (xs ys : List ℤ) → NameChanges 0 places xs ys → NameChanges (return_arcs D) places (numbered_flow D xs) (numbered_flow D ys)
 named_numbered (Terminals source sink) places xs ys named = named_after_first places xs ys named
 named_numbered _ places xs ys named = named
 
-pub numbered_is : (D : Demand) (xs : List ℤ) → drop (return_count D) xs ≡ numbered_flow D xs
+pub numbered_is : (D : Demand) (xs : List ℤ) → drop (return_arcs D) xs ≡ numbered_flow D xs
 numbered_is D xs = grind arith
 
-same_count : (D : Demand) (v : ℕ) (value : ℤ) → return_count (with_supply D v value) ≡ return_count D
+same_count : (D : Demand) (v : ℕ) (value : ℤ) → return_arcs (with_supply D v value) ≡ return_arcs D
 same_count D v value = grind arith
 
 -- how many rows come before the numbered arcs, and their flows, are the same before a change
-pub return_count_before : (log : List Part) (I : Instance) → return_count (before_all log I).demand ≡ return_count I.demand
-return_count_before [] I = refl
-return_count_before (Supply v value ∷ log) I = same_count (before_all log I).demand v value ∙ return_count_before log I
-return_count_before (_ ∷ log) I = return_count_before log I
+pub return_arcs_before : (log : List Part) (I : Instance) → return_arcs (before_all log I).demand ≡ return_arcs I.demand
+return_arcs_before [] I = refl
+return_arcs_before (Supply v value ∷ log) I = same_count (before_all log I).demand v value ∙ return_arcs_before log I
+return_arcs_before (_ ∷ log) I = return_arcs_before log I
 
-pub numbered_before : (log : List Part) (I : Instance) (xs : List ℤ) → numbered_flow (before_all log I).demand xs ≡ drop (return_count I.demand) xs
-numbered_before log I xs = sym (numbered_is (before_all log I).demand xs) ∙ ap (λ (n : ℕ). drop n xs) (return_count_before log I)
+pub numbered_before : (log : List Part) (I : Instance) (xs : List ℤ) → numbered_flow (before_all log I).demand xs ≡ drop (return_arcs I.demand) xs
+numbered_before log I xs = sym (numbered_is (before_all log I).demand xs) ∙ ap (λ (n : ℕ). drop n xs) (return_arcs_before log I)
 
 -- places that name what is changed since the flow before a change
-pub named_before : (log : List Part) (I : Instance) (places : List ℕ) (xs ys : List ℤ) → NameChanges 0 places xs ys → NameChanges (return_count (before_all log I).demand) places (numbered_flow (before_all log I).demand xs) (numbered_flow I.demand ys)
+pub named_before : (log : List Part) (I : Instance) (places : List ℕ) (xs ys : List ℤ) → NameChanges 0 places xs ys → NameChanges (return_arcs (before_all log I).demand) places (numbered_flow (before_all log I).demand xs) (numbered_flow I.demand ys)
 named_before log I places xs ys named =
-    rw (return_count_before log I, numbered_before log I xs ∙ numbered_is I.demand xs) (named_numbered I.demand places xs ys named)
+    rw (return_arcs_before log I, numbered_before log I xs ∙ numbered_is I.demand xs) (named_numbered I.demand places xs ys named)
 
 -- what holds of what was kept, with any verdict, holds of the moment before, where there is one
 pub since : (told : Option Verdict) (I : Instance) (kept : Snapshot) (P : Moment → Type 0) → ((verdict : Verdict) → P (record { instance = before_all kept.log I; flow = kept.flow; potentials = kept.potentials; verdict = verdict; cut = kept.cut })) → IfSome (before_of told I kept) P

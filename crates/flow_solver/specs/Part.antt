@@ -91,8 +91,3 @@ before_of (Some told) I kept =
 abbrev pub IsKept : Option Verdict → Instance → Snapshot → Type 0
 IsKept None I kept = Unit {0}
 IsKept (Some told) I kept = CanTakeBackAll kept.log I × (length kept.flow ≡ length (reduced (before_all kept.log I)).arcs)
-
--- how many rows stand before those of the numbered arcs
-abbrev pub return_count : Demand → ℕ
-return_count (Terminals source sink) = 1
-return_count _ = 0

@@ -33,7 +33,7 @@ pub struct Before {
     pub verdict: Option<Verdict>,
 }
 
-ghost use Rattle.flow_solver.specs.Part.{before_all, place_of_edit, place_of_part, return_count, CanTakeBackAll, TakesBack};
+ghost use Rattle.flow_solver.specs.Part.{before_all, place_of_edit, place_of_part, CanTakeBackAll, TakesBack};
 
 /// What an accepted edit will replace.
 pub fn part_of(net: &Network, edit: &Edit) -> Part
@@ -59,16 +59,6 @@ pub fn part_of(net: &Network, edit: &Edit) -> Part
                 row: arc_of(net, u64::from(k)),
             }
         }
-    }
-}
-
-/// How many rows stand before those of the numbered arcs: the return arc, where there is one.
-pub fn return_count(net: &Network) -> usize
-    ensures { result ≡ return_count net.now.demand }
-{
-    match net.return_arc() {
-        Some(_) => 1,
-        None => 0,
     }
 }
 

@@ -6,13 +6,14 @@ mod exchanges;
 ghost use Rattle.std.specs.Prelude.{◌≡◌, ◌≢◌, AllPairs, ◌≤◌, IfOk, IfSome, IsSome, None, Some, length, ◌+◌};
 ghost use Rattle.dimacs_text.specs.Lawful.{IsNode};
 ghost use Rattle.network.specs.Instance.{arc_at, reduced_supply};
+ghost use Rattle.network.specs.Rows.{return_arcs};
 ghost use Rattle.tracked.specs.Touched.{NameChanges};
 ghost use Rattle.flow_solver.specs.Edit.{IsCertifiedMoment};
 ghost use Rattle.flow_solver.specs.Moment.{IsStart, arc_flows};
-ghost use Rattle.flow_solver.specs.Part.{return_count, LeadsBefore};
+ghost use Rattle.flow_solver.specs.Part.{LeadsBefore};
 
 use crate::balance::Balance;
-use crate::part::{Before, Part, return_count, row_before, supply_before};
+use crate::part::{Before, Part, row_before, supply_before};
 use crate::potentials::Potentials;
 use crate::start::{start_balance, start_nodes};
 use crate::verdict::Verdict;
@@ -130,7 +131,7 @@ impl Tables {
         requires { IsSome self.now.before }
         ensures { IfSome self.now.before (λ old. result.now ≡ arc_flows old) }
     {
-        let first = return_count(self.graph.network());
+        let first = self.graph.network().return_arcs();
         &self.flow.before()[first..]
     }
 
@@ -166,7 +167,7 @@ impl Tables {
     pub fn touched_flow(&self) -> &[u32]
         requires { IsSome self.now.before }
         ensures named { IfSome self.now.before
-            (λ old. NameChanges (return_count old.instance.demand) result.now
+            (λ old. NameChanges (return_arcs old.instance.demand) result.now
             (arc_flows old) (arc_flows self.now.moment)) }
         ensures apart { AllPairs ◌≢◌ result.now }
     {

@@ -12,7 +12,8 @@ use Rattle.flow_solver.specs.Moment.{Moment, VerdictFits, returned}
 use Rattle.flow_solver.specs.Answer.{IsAnswered}
 use Rattle.flow_solver.specs.Touched.{NameChanges}
 use Rattle.flow_solver.specs.TablesView.{IsFlowValue}
-use Rattle.flow_solver.specs.Part.{return_count, LeadsBack}
+use Rattle.network.specs.Rows.{return_arcs}
+use Rattle.flow_solver.specs.Part.{LeadsBack}
 use Rattle.flow_solver.proofs.AnswerLemmas.{verdict_fits, flow_told, flows_within}
 use Rattle.flow_solver.specs.declared.part.Part.{Part}
 use Rattle.session.specs.Group.{is_there, last_parts, rank, AreFirst}
@@ -72,7 +73,7 @@ nodes_same : (N : Named) (I J : Instance) → instance_swapped N J ≡ I → J.n
 nodes_same N I J back = ap (λ (K : Instance). K.nodes) back
 
 -- other supplies leave the return arc where it is
-count_same : (places : List (ℕ × ℤ)) (demand : Demand) → return_count (demand_swapped places demand) ≡ return_count demand
+count_same : (places : List (ℕ × ℤ)) (demand : Demand) → return_arcs (demand_swapped places demand) ≡ return_arcs demand
 count_same places (Supplies supplies) = refl
 count_same places (Terminals source sink) = refl
 count_same places (Sides marks) = refl
@@ -176,11 +177,11 @@ module _ (before : Option Moment) (m : Moment) (some : IsSome before) (was_answe
       subst (λ (n : ℕ). NameChanges n places xs ys) (sym is_first)
       (subst (λ (zs : List T). NameChanges (first_in was_moment) places zs ys) (sym old_is) (subst (λ (zs : List T). NameChanges (first_in was_moment) places (list_of was_moment) zs) (sym is_ys) named))
 
-  pub flows_named : (parts : List Part) → PartsLeadBack parts was_moment.instance m.instance → (first : ℕ) (places : List ℕ) (xs ys : List ℤ) → first ≡ return_count m.instance.demand → IfSome before (λ old. NameChanges (return_count old.instance.demand) places (flow_of old) (flow_of m)) → IfSome before (λ old. xs ≡ flow_of old) → ys ≡ flow_of m → NameChanges first places xs ys
+  pub flows_named : (parts : List Part) → PartsLeadBack parts was_moment.instance m.instance → (first : ℕ) (places : List ℕ) (xs ys : List ℤ) → first ≡ return_arcs m.instance.demand → IfSome before (λ old. NameChanges (return_arcs old.instance.demand) places (flow_of old) (flow_of m)) → IfSome before (λ old. xs ≡ flow_of old) → ys ≡ flow_of m → NameChanges first places xs ys
   flows_named parts back first places xs ys is_first =
-      let same : return_count m.instance.demand ≡ return_count was_moment.instance.demand =
-      sym (count_same (named parts).supplies m.instance.demand) ∙ ap (λ (I : Instance). return_count I.demand) back.back in
-      changes_named first (λ old. return_count old.instance.demand) flow_of places xs ys (is_first ∙ same)
+      let same : return_arcs m.instance.demand ≡ return_arcs was_moment.instance.demand =
+      sym (count_same (named parts).supplies m.instance.demand) ∙ ap (λ (I : Instance). return_arcs I.demand) back.back in
+      changes_named first (λ old. return_arcs old.instance.demand) flow_of places xs ys (is_first ∙ same)
 
   pub potentials_named : (places : List ℕ) (xs ys : List ℤ) → IfSome before (λ old. NameChanges 1 places old.potentials m.potentials) → IfSome before (λ old. xs ≡ old.potentials) → ys ≡ m.potentials → NameChanges 1 places xs ys
   potentials_named places xs ys = changes_named 1 (λ old. 1) (λ old. old.potentials) places xs ys refl

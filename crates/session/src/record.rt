@@ -2,7 +2,7 @@
 
 ghost use Rattle.std.specs.Prelude.{◌≡◌, IsSome, IfOk, Some};
 ghost use Rattle.flow_solver.specs.Answer.{IsAnswered};
-ghost use Rattle.flow_solver.specs.Part.{return_count};
+ghost use Rattle.network.specs.Rows.{return_arcs};
 ghost use Rattle.session.specs.Record.{RecordFits, Differs, with_record};
 ghost use Rattle.session.specs.Session.{old_moment, ArePartsLogged};
 
@@ -58,7 +58,7 @@ impl<A: Allocator + Copy> Record<A> {
         let flows = differences(
             alloc,
             tables.touched_flow(),
-            index_of_first_arc(tables),
+            tables.network().return_arcs(),
             tables.old_flow(),
             tables.flow(),
         )?;
@@ -83,16 +83,6 @@ impl<A: Allocator + Copy> Record<A> {
             marks,
             verdict: tables.old_verdict(),
         })
-    }
-}
-
-/// The index of the first arc's flow: that of the return arc comes before it, where there is one.
-fn index_of_first_arc(tables: &Tables) -> usize
-    ensures { result ≡ return_count tables.now.moment.instance.demand }
-{
-    match tables.network().return_arc() {
-        Some(_) => 1,
-        None => 0,
     }
 }
 

@@ -1,3 +1,6 @@
+use Rattle.std.proofs.Common.{◌∙◌, ap}
+use Rattle.network.specs.Instance.{Instance}
+use Rattle.network.specs.Rows.{return_arcs}
 use Rattle.session.proofs.Recording.{fewer_flows, flows_named, same_potentials, potentials_named, same_marks, marks_named, told}
 use Rattle.session.proofs.record.Record.of_last_change.Goals as goal
 
@@ -9,7 +12,7 @@ differences-requires-clause-fewer g c =
 pub differences-requires-clause-named : goal.differences-requires-clause-named
 differences-requires-clause-named g c =
     let shown = c.args.tables.now in
-    flows_named shown.before shown.moment c.requires.before c.requires.was_answered c.requires.answered c.in_ok-parts.parts.items c.in_ok-parts.ensures.back c.index_of_first_arc.result c.touched_flow.result.now c.old_flow.result.now c.flow.result.now c.index_of_first_arc.ensures c.touched_flow.ensures.named c.old_flow.ensures c.flow.ensures.value
+    flows_named shown.before shown.moment c.requires.before c.requires.was_answered c.requires.answered c.in_ok-parts.parts.items c.in_ok-parts.ensures.back c.return_arcs.result c.touched_flow.result.now c.old_flow.result.now c.flow.result.now (c.return_arcs.ensures.count ∙ ap (λ (I : Instance). return_arcs I.demand) c.network.ensures) c.touched_flow.ensures.named c.old_flow.ensures c.flow.ensures.value
 
 pub differences-requires-2-clause-fewer : goal.differences-requires-2-clause-fewer
 differences-requires-2-clause-fewer g c =
