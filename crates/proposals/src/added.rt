@@ -5,8 +5,15 @@ ghost use Rattle.std.specs.Prelude.{◌≡◌, ◌<◌, ◌^◌, ℕ};
 use relaxation::{Arc, Proposal};
 use two_sided::Between;
 
-/// Takes an arc over that is entered, also where another one was in its place; says whether it could.
-pub fn renew(proposal: &mut Proposal, between: &mut Between, k: usize, arc: &Arc) -> bool
+/// Takes an arc over that is entered, also where another one was in its place, and where the links of at most `left` nodes are
+/// moved for that; says whether it could, and takes these nodes off `left`.
+pub fn renew(
+    proposal: &mut Proposal,
+    between: &mut Between,
+    k: usize,
+    arc: &Arc,
+    left: &mut usize,
+) -> bool
     requires { between.old ≡ proposal.old }
     ensures proposal { proposal.new ≡ proposal.old }
     ensures between { between.new ≡ between.old }
@@ -16,31 +23,43 @@ pub fn renew(proposal: &mut Proposal, between: &mut Between, k: usize, arc: &Arc
         return true;
     }
     take_out(proposal, between, k);
-    add(proposal, between, k, arc)
+    add(proposal, between, k, arc, left)
 }
 
-/// Enters one more arc, and says whether it could.
-pub fn add(proposal: &mut Proposal, between: &mut Between, k: usize, arc: &Arc) -> bool
+/// Enters one more arc, where the links of at most `left` nodes are moved for that; says whether it could, and takes these
+/// nodes off `left`.
+pub fn add(
+    proposal: &mut Proposal,
+    between: &mut Between,
+    k: usize,
+    arc: &Arc,
+    left: &mut usize,
+) -> bool
     requires { between.old ≡ proposal.old }
     ensures proposal { proposal.new ≡ proposal.old }
     ensures between { between.new ≡ between.old }
 {
     let (tail, head) = (arc.tail as usize, arc.head as usize);
     let entries = proposal.entries();
-    if tail >= entries || head >= entries || !free_place(proposal, between, tail) {
+    if tail >= entries || head >= entries || !free_place(proposal, between, tail, left) {
         return false;
     }
     proposal.add_tail(k, tail);
-    if !free_place(proposal, between, head) || !proposal.add(k, arc) {
+    if !free_place(proposal, between, head, left) || !proposal.add(k, arc) {
         return false;
     }
     between.renew(proposal, k);
     true
 }
 
-/// Frees the place behind a node's links, where one is free anywhere, and says whether it is. For that the links of the nodes
-/// up to there move by one place, of each node its first or its last one alone.
-fn free_place(proposal: &mut Proposal, between: &mut Between, v: usize) -> bool
+/// Frees the place behind a node's links, where one is free at most `left` nodes away, and says whether it is. For that the
+/// links of the nodes up to there move by one place, of each node its first or its last one alone.
+fn free_place(
+    proposal: &mut Proposal,
+    between: &mut Between,
+    v: usize,
+    left: &mut usize,
+) -> bool
     requires between { between.old ≡ proposal.old }
     requires node { v < proposal.old }
     ensures proposal { proposal.new ≡ proposal.old }
@@ -49,6 +68,10 @@ fn free_place(proposal: &mut Proposal, between: &mut Between, v: usize) -> bool
     let Some(gap) = proposal.nearest_gap(v) else {
         return false;
     };
+    let Some(rest) = left.checked_sub(gap.abs_diff(v)) else {
+        return false;
+    };
+    *left = rest;
     for moved in 0..gap.saturating_sub(v) {
         between.follow(proposal.move_up(gap - moved));
     }

@@ -492,7 +492,9 @@ fn note_each(noted: &mut Noted, places: &[u32]) {
     }
 }
 
-/// Takes over the rows and the flow of the arcs that are noted, that were added or that are gone; says whether it could.
+/// Takes over the rows and the flow of the arcs that are noted, that were added or that are gone; says whether it could. It gives
+/// up where the links of as many nodes would move as there are arcs: to enter all arcs anew is quicker then, and leaves free
+/// places where they were used up.
 fn renew_all(
     proposal: &mut Proposal,
     between: &mut Between,
@@ -510,14 +512,20 @@ fn renew_all(
     for k in rows.len()..before {
         take_out(proposal, between, k);
     }
+    let mut left = rows.len();
     for k in before..rows.len() {
-        if !add(proposal, between, k, &arc_of(&rows[k], flow[k])) {
+        let arc = arc_of(&rows[k], flow[k]);
+        if !add(proposal, between, k, &arc, &mut left) {
             return false;
         }
     }
     for k in noted.listed() {
         let k = *k as usize;
-        if k < before.min(rows.len()) && !renew(proposal, between, k, &arc_of(&rows[k], flow[k])) {
+        if k >= before.min(rows.len()) {
+            continue;
+        }
+        let arc = arc_of(&rows[k], flow[k]);
+        if !renew(proposal, between, k, &arc, &mut left) {
             return false;
         }
     }
