@@ -149,6 +149,9 @@ impl Tree {
         ensures sized { IsTreeOf residual.entry self.new }
         ensures held { self.new.held ≡ self.old.held }
     {
+        if u as usize >= residual.potentials.len() {
+            return;
+        }
         let ends = residual.ends.at(u as usize);
         for i in 0..ends.links.len() {
             let other = ends.links[i].other;
