@@ -97,6 +97,7 @@ pub(crate) fn lead(
     };
     // Each node came nearer to balance, so those out of balance are listed still.
     note_written(&mut flow.touched, &draft.flow);
+    attempt.follow(graph, &flow.entries);
     Some(units)
 }
 
@@ -145,6 +146,7 @@ pub fn adopt(
         flow,
         &mut attempt.wanted.potentials,
         &mut scratch.potentials,
+        attempt.proposals.ends(),
         &mut scratch.tree,
     ) else {
         take_back(flow, excess, &attempt.draft);

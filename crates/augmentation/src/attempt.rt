@@ -100,6 +100,29 @@ impl Attempt {
             .write_changes(graph.rows(), flow, &mut self.wanted);
     }
 
+    /// Brings the ends in step with a flow that was led to what is wanted.
+    pub(crate) fn follow(&mut self, graph: &Graph, flow: &[i64])
+        requires { length flow.now ≡ length graph.now.rows }
+        ensures { self.new ≡ self.old }
+    {
+        if self.draft.order.has_circles() {
+            self.proposals
+                .follow(graph.rows(), flow, &self.wanted.changes);
+        } else {
+            self.proposals.follow(graph.rows(), flow, &[]);
+        }
+    }
+
+    /// Brings the ends in step with a flow.
+    pub(crate) fn keep_step(&mut self, graph: &Graph, flow: &[i64])
+        requires { length flow.now ≡ length graph.now.rows }
+        ensures { self.new ≡ self.old }
+    {
+        self.proposals
+            .catch_up(graph.rows(), flow, &self.wanted.changes);
+        self.proposals.take_over_arcs(graph.rows(), flow);
+    }
+
     /// Takes over now what the next proposal near an edit would have to take over.
     pub(crate) fn prepare(
         &mut self,

@@ -9,7 +9,8 @@ ghost use Rattle.tracked.specs.Marks.{in_set};
 ghost use Rattle.augmentation.specs.Held.{AllMarked, AreTestedIn, AreTestedOn, AreTracedAllOn, HangsWellOn, HoldAlongAllOn, HoldAtAllOn, HoldsAlongOn, HoldsAtOn, IsHeldIn, IsInRangeAt, IsLabelling};
 
 use crate::certificate::{FLOOR, certifies, keeps_arc};
-use residual_graph::{Graph, Walk, Way};
+use residual_ends::ResidualEnds;
+use residual_graph::{Graph, Way};
 use shortest_paths::{Predecessor, Tree, are_traced, is_traced};
 use tracked::{Touched, Tracked};
 
@@ -20,6 +21,8 @@ struct Labelled<'a> {
     flow: &'a [i64],
     labels: &'a [i64],
     predecessors: &'a [Predecessor],
+    /// A quick table of the ends of arcs at each node.
+    ends: &'a ResidualEnds,
 }
 
 /// Whether the labels of these nodes are in the range with which a run of pushes begins.
@@ -87,19 +90,18 @@ fn holds_at(on: Labelled<'_>, node: u32) -> bool
     if !is_traced(on.graph, on.flow, on.labels, on.predecessors, node as usize) {
         return false;
     }
-    // The quick walk guesses the ends ahead of the list, so that no end has to wait for the one before it to be read.
-    let mut guesses = Walk::at(on.graph, node);
     let mut current = on.graph.first_end(node);
-    let mut is_right = true;
-    while let Some(guess) = guesses.next() {
-        is_right = is_right & (current == Some(guess.number));
-        if !holds_along(on, guess.number as usize / 2) {
-            return false;
+    if (node as usize) < on.ends.entries() {
+        // These are guesses: so no end has to wait for the one before it to be read. The list has the greatest first.
+        for guess in on.ends.at(node as usize).numbers.iter().rev() {
+            if current != Some(*guess) {
+                break;
+            }
+            if !holds_along(on, *guess as usize / 2) {
+                return false;
+            }
+            current = on.graph.next_end(*guess);
         }
-        current = on.graph.next_end(guess.number);
-    }
-    if !is_right {
-        current = on.graph.first_end(node);
     }
     while let Some(end) = current {
         if !holds_along(on, end as usize / 2) {
@@ -177,7 +179,12 @@ fn hold_there(
 }
 
 /// Whether labels that are held certify the flow, and are the greatest that do.
-pub(crate) fn holds(graph: &Graph, flow: &Tracked<i64>, tree: &Tree) -> bool
+pub(crate) fn holds(
+    graph: &Graph,
+    flow: &Tracked<i64>,
+    ends: &ResidualEnds,
+    tree: &Tree,
+) -> bool
     requires graph { HasEntries (length tree.now.labels) graph.now }
     requires flow { IsPseudoflow (length tree.now.labels) graph.now.rows flow.now.entries }
     requires held { IsHeldIn graph.now.rows flow.now.whole tree.now.held }
@@ -198,6 +205,7 @@ pub(crate) fn holds(graph: &Graph, flow: &Tracked<i64>, tree: &Tree) -> bool
         flow: flow.entries(),
         labels,
         predecessors: tree.predecessors(),
+        ends,
     };
     hold_there(on, tree.noted(), tree.beside(), flow.written(), rehung)
 }

@@ -170,12 +170,14 @@ fn raise_near(
     ensures held { IsHeldIn graph.now.rows flow.now.whole scratch.new.held }
     ensures step { AreInStep apart.new scratch.new.held.labels potentials.new.entries }
 {
+    let attempt = &mut scratch.attempt;
+    attempt.keep_step(graph, flow.entries());
     let tree = &mut scratch.tree;
     tree.lower(0);
-    if !is_renewed(graph, flow, potentials.entries(), tree) {
+    if !is_renewed(graph, flow, potentials.entries(), attempt.proposals.ends(), tree) {
         return false;
     }
-    write_labels(potentials, apart, tree, &mut scratch.attempt.proposals);
+    write_labels(potentials, apart, tree, &mut attempt.proposals);
     tree.accept(graph, flow.places());
     true
 }
@@ -208,7 +210,7 @@ pub fn prepare(
     attempt.prepare(graph, flow.entries(), excess, potentials);
     let tree = &mut scratch.tree;
     tree.lower(0);
-    if !is_renewed(graph, flow, potentials, tree) {
+    if !is_renewed(graph, flow, potentials, attempt.proposals.ends(), tree) {
         return;
     }
     list_apart(apart, tree.labels(), potentials);
@@ -242,8 +244,9 @@ fn push_proposed_near(
     attempt.propose_near(graph, flow.entries(), excess, potentials.entries());
     let count = lead(graph, flow, excess, attempt)?;
     let tree = &mut scratch.tree;
-    tree.lower(attempt.proposals.greatest());
-    if !is_renewed(graph, flow, attempt.proposals.potentials(), tree) {
+    let proposals = &attempt.proposals;
+    tree.lower(proposals.greatest());
+    if !is_renewed(graph, flow, proposals.potentials(), proposals.ends(), tree) {
         take_back(flow, excess, &attempt.draft);
         return None;
     }

@@ -56,6 +56,8 @@ pub struct Order {
     ranked: u32,
     /// How many steps may still be taken.
     fuel: u64,
+    /// Whether a circle was taken off.
+    has_circles: bool,
 }
 
 impl Model for Order {
@@ -135,6 +137,7 @@ impl Order {
             walk,
             ranked: 0,
             fuel: 0,
+            has_circles: false,
         })
     }
 
@@ -143,6 +146,11 @@ impl Order {
         ensures { length result.now ≡ self.now }
     {
         &self.ranks
+    }
+
+    /// Whether some of the changes that were laid out went round in circles, which were taken off.
+    pub(crate) fn has_circles(&self) -> bool {
+        self.has_circles
     }
 
     /// Lays the changes out: brings what is wanted within the bounds, takes off what goes round in circles, and ranks the
@@ -170,6 +178,7 @@ impl Order {
         let places = (self.ranks.len() as u64).saturating_add(changes.len() as u64);
         self.fuel = places.saturating_mul(STEPS);
         self.ranked = 0;
+        self.has_circles = false;
         for change in changes {
             if let Some((from, to)) = ends_of(graph, flow, change) {
                 self.forget(from);
@@ -286,6 +295,7 @@ impl Order {
     fn take_off_circle(&mut self, flow: &[i64], changes: &mut [Change], begin: usize)
         ensures { self.new ≡ self.old }
     {
+        self.has_circles = true;
         let (narrowest, amount) = self.narrowest_from(flow, changes, begin);
         for j in begin..self.walk.len() {
             lessen(flow, changes, self.change_at(j), amount);

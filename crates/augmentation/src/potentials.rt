@@ -12,8 +12,9 @@ use crate::certificate::certifies;
 use crate::held::{holds, holds_whole};
 use crate::scratch::Scratch;
 use crate::wanted::shift_potentials;
-use residual_graph::{Graph, Residual};
-use shortest_paths::Tree;
+use residual_ends::ResidualEnds;
+use residual_graph::Graph;
+use shortest_paths::{Residual, Tree};
 use tracked::Tracked;
 
 /// Where more than one node in so many was hung anew, the labels of all nodes are tested.
@@ -34,7 +35,13 @@ pub(crate) fn write_all(table: &mut Tracked<i64>, numbers: &[i64])
 
 /// Has a tree mend its labels, and says whether they are the greatest potentials that certify the flow. `potentials` are
 /// likely to certify it.
-fn mend(graph: &Graph, flow: &Tracked<i64>, potentials: &[i64], tree: &mut Tree) -> bool
+fn mend(
+    graph: &Graph,
+    flow: &Tracked<i64>,
+    potentials: &[i64],
+    ends: &ResidualEnds,
+    tree: &mut Tree,
+) -> bool
     requires graph { HasEntries (length potentials.now) graph.now }
     requires flow { IsPseudoflow (length potentials.now) graph.now.rows flow.now.entries }
     requires sized { length tree.old.labels ≡ length potentials.now }
@@ -46,6 +53,7 @@ fn mend(graph: &Graph, flow: &Tracked<i64>, potentials: &[i64], tree: &mut Tree)
     let residual = Residual {
         graph,
         flow: flow.entries(),
+        ends,
         potentials,
     };
     if !tree.mend(residual, flow.places()) {
@@ -55,7 +63,7 @@ fn mend(graph: &Graph, flow: &Tracked<i64>, potentials: &[i64], tree: &mut Tree)
     if tree.is_lost() || tree.rehung().places().len() > tree.labels().len() / MOST_REHUNG {
         return holds_whole(graph, flow.entries(), tree);
     }
-    holds(graph, flow, tree)
+    holds(graph, flow, ends, tree)
 }
 
 /// Has a tree mend its labels, or else find them anew, and says whether they are the greatest potentials that certify the
@@ -64,6 +72,7 @@ pub(crate) fn is_renewed(
     graph: &Graph,
     flow: &Tracked<i64>,
     potentials: &[i64],
+    ends: &ResidualEnds,
     tree: &mut Tree,
 ) -> bool
     requires graph { HasEntries (length potentials.now) graph.now }
@@ -75,12 +84,13 @@ pub(crate) fn is_renewed(
     ensures labels { tree.new.held.labels ≡ tree.old.held.labels }
     ensures held { IsHeldIn graph.now.rows flow.now.whole tree.new.held }
 {
-    if mend(graph, flow, potentials, tree) {
+    if mend(graph, flow, potentials, ends, tree) {
         return true;
     }
     let residual = Residual {
         graph,
         flow: flow.entries(),
+        ends,
         potentials,
     };
     if tree.search(residual) && holds_whole(graph, flow.entries(), tree) {
@@ -92,7 +102,13 @@ pub(crate) fn is_renewed(
 
 /// Has a tree find its labels so, and hold them where they are the greatest potentials that certify the flow; says whether
 /// they are.
-pub(crate) fn renew(graph: &Graph, flow: &Tracked<i64>, potentials: &[i64], tree: &mut Tree) -> bool
+pub(crate) fn renew(
+    graph: &Graph,
+    flow: &Tracked<i64>,
+    potentials: &[i64],
+    ends: &ResidualEnds,
+    tree: &mut Tree,
+) -> bool
     requires graph { HasEntries (length potentials.now) graph.now }
     requires flow { IsPseudoflow (length potentials.now) graph.now.rows flow.now.entries }
     requires sized { length tree.old.labels ≡ length potentials.now }
@@ -102,7 +118,7 @@ pub(crate) fn renew(graph: &Graph, flow: &Tracked<i64>, potentials: &[i64], tree
     ensures held { IsHeldIn graph.now.rows flow.now.whole tree.new.held }
 {
     tree.lower(0);
-    if !is_renewed(graph, flow, potentials, tree) {
+    if !is_renewed(graph, flow, potentials, ends, tree) {
         return false;
     }
     tree.accept(graph, flow.places());
@@ -116,6 +132,7 @@ pub(crate) fn certify(
     flow: &Tracked<i64>,
     wanted: &mut [i64],
     potentials: &mut [i64],
+    ends: &ResidualEnds,
     tree: &mut Tree,
 ) -> Option<bool>
     requires graph { HasEntries (length potentials.old) graph.now }
@@ -132,7 +149,7 @@ pub(crate) fn certify(
         return None;
     }
     shift_potentials(wanted);
-    if renew(graph, flow, wanted, tree) {
+    if renew(graph, flow, wanted, ends, tree) {
         potentials.copy_from_slice(tree.labels());
         return Some(true);
     }

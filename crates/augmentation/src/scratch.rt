@@ -16,7 +16,7 @@ use crate::attempt::Attempt;
 use crate::certificate::are_in_range;
 use crate::excess::Excess;
 use crate::potentials::renew;
-use crate::side::mark_side;
+use crate::side::{OnSide, mark_side};
 use crate::trails::{Ground, Trails, find_way};
 use containers::{Queue, both};
 use proposals::Wanted;
@@ -181,7 +181,16 @@ impl Scratch {
         ensures same { self.new ≡ record self.old { marks = self.new.marks } }
         ensures marked { AreOnSide side graph.now.rows flow.now excess.now self.new.marks }
     {
-        mark_side(side, graph, flow, excess, &mut self.marked, &mut self.hops);
+        if self.attempt.proposals.lacks_arcs(graph.rows()) {
+            self.attempt.keep_step(graph, flow);
+        }
+        let on = OnSide {
+            side,
+            graph,
+            flow,
+            ends: self.attempt.proposals.ends(),
+        };
+        mark_side(on, excess, &mut self.marked, &mut self.hops);
     }
 
     /// Searches breadth first from the nodes in excess over residual arcs that cost nothing, and says whether it came to a
@@ -237,7 +246,9 @@ impl Scratch {
         ensures shortest { AreShortest graph.now.rows flow.now.entries self.new.potentials }
         ensures held { IsHeldIn graph.now.rows flow.now.whole self.new.held }
     {
-        if renew(graph, flow, &self.potentials, &mut self.tree) {
+        self.attempt.keep_step(graph, flow.entries());
+        let ends = self.attempt.proposals.ends();
+        if renew(graph, flow, &self.potentials, ends, &mut self.tree) {
             self.potentials.copy_from_slice(self.tree.labels());
             return;
         }

@@ -11,7 +11,8 @@ ghost use Rattle.augmentation.specs.Cut.{AreOnSide, AreRoots, way_from};
 ghost use Rattle.augmentation.specs.Side.{AreFarOn, IsClosedAlongOn, IsClosedOn, IsGrownOn, LeadsOutOn};
 
 use crate::excess::Excess;
-use residual_graph::{Graph, ResidualArc, Side, Walk, Way};
+use residual_ends::ResidualEnds;
+use residual_graph::{Graph, ResidualArc, Side, Way};
 use tracked::Touched;
 
 /// Where more than one node in so many is marked, all arcs are tested: in order, which is quicker.
@@ -19,29 +20,28 @@ const MOST_LISTED: usize = 8;
 
 /// What leads on from the marked nodes of a side.
 #[derive(Clone, Copy)]
-struct OnSide<'a> {
-    side: Side,
-    graph: &'a Graph,
-    flow: &'a [i64],
+pub(crate) struct OnSide<'a> {
+    pub side: Side,
+    pub graph: &'a Graph,
+    pub flow: &'a [i64],
+    /// A quick table of the ends of arcs at each node.
+    pub ends: &'a ResidualEnds,
 }
 
 /// Marks the nodes of a side, and no other.
 pub(crate) fn mark_side(
-    side: Side,
-    graph: &Graph,
-    flow: &[i64],
+    on: OnSide<'_>,
     excess: &Excess,
     marked: &mut Touched,
     hops: &mut Vec<u32>,
 )
-    requires graph { HasEntries (length excess.now) graph.now }
-    requires flow { IsPseudoflow (length excess.now) graph.now.rows flow.now }
+    requires graph { HasEntries (length excess.now) on.graph.now }
+    requires flow { IsPseudoflow (length excess.now) on.graph.now.rows on.flow.now }
     requires marked_in { length marked.old ≡ length excess.now }
     ensures same_size { length marked.new ≡ length marked.old }
-    ensures side { AreOnSide side graph.now.rows flow.now excess.now marked.new }
+    ensures side { AreOnSide on.side on.graph.now.rows on.flow.now excess.now marked.new }
 {
-    mark_roots(side, excess, marked);
-    let on = OnSide { side, graph, flow };
+    mark_roots(on.side, excess, marked);
     mark_again(on, marked, hops);
     // The search leaves no node out, so it is done once at most.
     while let Some(node) = way_out(on, marked) {
@@ -107,16 +107,22 @@ fn mark_from(on: OnSide<'_>, marked: &mut Touched, node: u32, hops: &mut Vec<u32
     requires flow { IsPseudoflow (length marked.old) on.graph.now.rows on.flow.now }
     ensures { IsGrownOn on.entry marked.old marked.new }
 {
-    let mut ends = Walk::at(on.graph, node);
-    while let Some(end) = ends.next() {
+    if node as usize >= on.ends.entries() {
+        return;
+    }
+    let ends = on.ends.at(node as usize);
+    for i in 0..ends.links.len() {
+        let other = ends.links[i].other as usize;
+        let arc = ends.numbers[i] / 2;
         // Most nodes are marked already: the arc is not looked at.
-        if marked.is_noted(end.other as usize) {
+        if other >= marked.size() || marked.is_noted(other) || arc as usize >= on.graph.rows().len()
+        {
             continue;
         }
-        if let Some(far) = way_out_along(on, marked, end.number / 2) {
+        if let Some(far) = way_out_along(on, marked, arc) {
             marked.note(far as usize);
             if hops.len() < hops.capacity() {
-                hops.push_reserved(end.number / 2);
+                hops.push_reserved(arc);
             }
         }
     }

@@ -70,7 +70,7 @@ impl Tables {
         ensures certified { IfOk result (λ t. IsCertifiedMoment t.moment) }
     {
         let log = Vec::with_capacity(alloc, GROUP_LIMIT)?;
-        let graph = Graph::new(alloc, net)?;
+        let graph = Graph::new(net);
         let (flow, balance) = start_balance(alloc, &graph)?;
         let arcs = graph.network().room() as usize + 1;
         let (potentials, cut, scratch) = start_nodes(alloc, graph.network().nodes(), arcs)?;

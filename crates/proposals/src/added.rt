@@ -2,7 +2,8 @@
 
 ghost use Rattle.std.specs.Prelude.{◌≡◌, ◌<◌, ◌^◌, ℕ};
 
-use relaxation::{Arc, Proposal};
+use relaxation::Proposal;
+use residual_ends::Arc;
 use two_sided::Between;
 
 /// Takes an arc over that is entered, also where another one was in its place, and where the links of at most `left` nodes are
@@ -65,7 +66,7 @@ fn free_place(
     ensures proposal { proposal.new ≡ proposal.old }
     ensures between { between.new ≡ between.old }
 {
-    let Some(gap) = proposal.nearest_gap(v) else {
+    let Some(gap) = proposal.ends().nearest_gap(v) else {
         return false;
     };
     let Some(rest) = left.checked_sub(gap.abs_diff(v)) else {
@@ -87,7 +88,7 @@ pub fn take_out(proposal: &mut Proposal, between: &mut Between, k: usize)
     ensures proposal { proposal.new ≡ proposal.old }
     ensures between { between.new ≡ between.old }
 {
-    if let Some(ends) = proposal.ends_of(k) {
+    if let Some(ends) = proposal.ends().ends_of(k) {
         let (tail, head) = (ends.head.other, ends.tail.other);
         let closed = Arc {
             tail,
@@ -100,7 +101,7 @@ pub fn take_out(proposal: &mut Proposal, between: &mut Between, k: usize)
         let _closed = proposal.renew(k, &closed);
         between.renew(proposal, k);
         between.follow(proposal.take_out(head as usize, ends.tail.opposite));
-        let place = proposal.tail_of(k);
+        let place = proposal.ends().tail_of(k);
         between.follow(proposal.take_out(tail as usize, place));
     }
     proposal.forget(k);

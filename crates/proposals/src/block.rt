@@ -254,5 +254,5 @@ const STEPS: u64 = 16;
 
 /// How many steps the walks to one node may take.
 fn fuel(proposal: &Proposal) -> u64 {
-    STEPS.saturating_mul(proposal.ends() as u64)
+    STEPS.saturating_mul(proposal.ends().count() as u64)
 }

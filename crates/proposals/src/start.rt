@@ -71,8 +71,8 @@ fn empty_all(proposal: &mut Proposal) -> bool
     ensures { proposal.new ≡ proposal.old }
 {
     let mut some = false;
-    for k in 0..proposal.entered() {
-        let Some(ends) = proposal.ends_of(k) else {
+    for k in 0..proposal.ends().entered() {
+        let Some(ends) = proposal.ends().ends_of(k) else {
             continue;
         };
         let flow = ends.tail.room::<false>();

@@ -9,7 +9,8 @@ use crate::solving::solve;
 use crate::wanted::{Change, Wanted};
 use containers::{Noted, both};
 use dimacs_text::ArcRow;
-use relaxation::{Arc, Proposal, Ring, Sets};
+use relaxation::{Proposal, Ring, Sets};
+use residual_ends::{Arc, ResidualEnds};
 use std::alloc::{AllocError, Global};
 use std::marker::Model;
 use two_sided::{Between, Readings};
@@ -228,7 +229,7 @@ impl Proposals {
         let Some(row) = rows.first() else {
             return false;
         };
-        let Some(link) = self.proposal.link(self.proposal.tail_of(0)) else {
+        let Some(link) = self.proposal.link(self.proposal.ends().tail_of(0)) else {
             return false;
         };
         let stands = flow_of(&self.proposal, 0, row, flow[0]);
@@ -257,11 +258,34 @@ impl Proposals {
     pub fn note_all(&mut self, places: &[u32])
         ensures { self.new ≡ self.old }
     {
-        if self.standing == Standing::Adopted && places.len() > self.proposal.entered() / MANY {
+        if self.standing == Standing::Adopted && places.len() > self.proposal.ends().entered() / MANY {
             return;
         }
         self.noted.open();
         note_each(&mut self.noted, places);
+    }
+
+    /// The ends of arcs at all nodes, with the room that the proposed flow leaves.
+    #[inline(always)]
+    pub fn ends(&self) -> &ResidualEnds
+        ensures { result.now ≡ self.now }
+    {
+        self.proposal.ends()
+    }
+
+    /// Brings the ends in step with a flow that was led to what is wanted, as the tree of labels reads them then: the flow can
+    /// be another than the proposed one only at these arcs, of which some went round in circles, and at the return arc.
+    pub fn follow(&mut self, rows: &[ArcRow], flow: &[i64], changes: &[Change])
+        requires { length flow.now ≡ length rows.now }
+        ensures { self.new ≡ self.old }
+    {
+        if self.returned.is_some() && !rows.is_empty() {
+            let _opened = self.proposal.renew(0, &arc_of(&rows[0], flow[0]));
+        }
+        self.returned = None;
+        for change in changes {
+            let _same = self.follow_at(rows, flow, change.arc);
+        }
     }
 
     /// Notes that the flow became what was proposed, but for what goes round in circles.
@@ -289,31 +313,28 @@ impl Proposals {
         if self.standing != Standing::Adopted {
             return;
         }
-        self.proposal.tell_arcs();
-        if self.returned.is_some() && !rows.is_empty() {
-            let _opened = self.proposal.renew(0, &arc_of(&rows[0], flow[0]));
-        }
-        self.returned = None;
+        self.proposal.list_moved();
         self.standing = Standing::InStep;
         self.noted.open();
+        self.follow(rows, flow, &[]);
         for change in changes {
-            self.catch_up_at(rows, flow, change.arc);
+            if !self.follow_at(rows, flow, change.arc) {
+                self.noted.note(change.arc);
+            }
         }
         self.between.load(&self.proposal);
     }
 
-    /// Brings an arc in step. Where another arc has its number now, that is left to be taken over as a noted one.
-    fn catch_up_at(&mut self, rows: &[ArcRow], flow: &[i64], arc: u32)
+    /// Brings an arc in step, and says whether it is: not where another arc has its number now.
+    fn follow_at(&mut self, rows: &[ArcRow], flow: &[i64], arc: u32) -> bool
         requires { length flow.now ≡ length rows.now }
         ensures { self.new ≡ self.old }
     {
         let k = arc as usize;
         if k >= rows.len() || flow_of(&self.proposal, k, &rows[k], flow[k]) == flow[k] {
-            return;
+            return true;
         }
-        if !self.proposal.renew(k, &arc_of(&rows[k], flow[k])) {
-            self.noted.note(arc);
-        }
+        self.proposal.renew(k, &arc_of(&rows[k], flow[k]))
     }
 
     /// Notes that a node may have got another potential.
@@ -362,6 +383,17 @@ impl Proposals {
         requires potentials { length potentials.now ≡ self.old }
         ensures { self.new ≡ self.old }
     {
+        self.take_over_arcs(rows, flow);
+        self.take_over_nodes(excess, potentials, unbalanced);
+        self.keeps_nodes = true;
+    }
+
+    /// Takes over a flow, also for the tree of labels: of the arcs those alone that were noted, where the proposal keeps step
+    /// with all others and they are few.
+    pub fn take_over_arcs(&mut self, rows: &[ArcRow], flow: &[i64])
+        requires { length flow.now ≡ length rows.now }
+        ensures { self.new ≡ self.old }
+    {
         let is_renewed = self.keeps_step(rows)
             && renew_all(
                 &mut self.proposal,
@@ -372,7 +404,7 @@ impl Proposals {
             );
         if !is_renewed {
             self.returned = None;
-            self.proposal.tell_arcs();
+            self.proposal.list_moved();
             load_arcs(&mut self.proposal, rows, flow);
             self.between.load(&self.proposal);
             self.noted.open();
@@ -380,8 +412,6 @@ impl Proposals {
             self.keeps_nodes = false;
         }
         self.noted.clear();
-        self.take_over_nodes(excess, potentials, unbalanced);
-        self.keeps_nodes = true;
     }
 
     /// Takes over what a flow leaves at each node and potentials, and lists the nodes out of balance, where what searches from
@@ -412,9 +442,14 @@ impl Proposals {
         self.standing == Standing::InStep && self.noted.listed().len() <= rows.len() / FEWER
     }
 
+    /// Whether arcs were noted, or there are more or fewer than the proposal has.
+    pub fn lacks_arcs(&self, rows: &[ArcRow]) -> bool {
+        !self.noted.listed().is_empty() || self.proposal.ends().entered() != rows.len()
+    }
+
     /// Whether the proposal keeps step with these rows.
     fn is_in_step(&self, rows: &[ArcRow]) -> bool {
-        self.standing == Standing::InStep && self.proposal.entered() == rows.len()
+        self.standing == Standing::InStep && self.proposal.ends().entered() == rows.len()
     }
 
     /// Writes down where the proposal stands, less than all where there is no room for it.
@@ -508,7 +543,7 @@ fn renew_all(
     if between.entries() != proposal.entries() {
         return false;
     }
-    let before = proposal.entered();
+    let before = proposal.ends().entered();
     for k in rows.len()..before {
         take_out(proposal, between, k);
     }

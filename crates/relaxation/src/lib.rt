@@ -7,25 +7,21 @@
 //! none does.
 #![tactic(auto)]
 
-mod arc;
 mod arcs;
 mod candidates;
 mod grow;
 mod limits;
-mod link;
 mod proposal;
 mod reach;
 mod ring;
 mod sets;
-mod span;
+mod signs;
 mod step;
 mod windows;
 
-pub use arc::Arc;
-pub use arcs::{ArcEnds, Moved};
 pub use limits::REST_LIMIT;
-pub use link::{Link, seen};
-pub use proposal::{Ends, Proposal};
+pub use proposal::Proposal;
 pub use ring::Ring;
 pub use sets::Sets;
+pub use signs::seen;
 pub use windows::{Limits, Outcome, relax};

@@ -1,9 +1,5 @@
 //! The ranges of numbers. A step that would leave them is given up.
 
-/// A cost, either way.
-pub(crate) const COST_LIMIT: i64 = 1_000_000_000_000;
-/// The rooms of an arc, both ways together.
-pub(crate) const ROOM_LIMIT: i64 = 2_000_000_000;
 /// A potential, either way.
 pub(crate) const POTENTIAL_LIMIT: i64 = 150_000_000_000_000_000;
 /// The excess or deficit of a node.

@@ -1,9 +1,8 @@
--- The two walks over the ends of arcs at a node (Ahuja, Magnanti, Orlin, "Network Flows": arc adjacency list; forward and reverse star).
+-- The walk over the ends of arcs at a node (Ahuja, Magnanti, Orlin, "Network Flows": arc adjacency list).
 use Rattle.std.specs.Prelude.{◌≡◌, ℕ, ◌+◌, ◌-◌, ◌*◌, ◌/◌, ◌%◌, ◌<◌, ◌≤◌, ◌==◌, if◌then◌else◌, IfSome, length, Option, None, Some}
 use Rattle.network.specs.Ends.{end_node}
 use Rattle.residual_graph.specs.declared.residual.Way.{Way}
 use Rattle.residual_graph.specs.declared.residual.Way.TheVariants.{Forward, Backward}
-use Rattle.residual_graph.specs.declared.star.End.{End}
 use Rattle.residual_graph.specs.Graph.{GraphView}
 pub use Rattle.residual_graph.specs.Graph.{AreRowsOf}
 use Rattle.residual_graph.specs.Residual.{start_at}
@@ -12,7 +11,7 @@ use Rattle.residual_graph.specs.Residual.{start_at}
 abbrev pub end_way : ℕ → Way
 end_way end = if (end % 2) == 0 then Forward else Backward
 
--- ---- the walk over the network's lists, from the greatest end down
+-- ---- the walk goes from the greatest end down
 
 -- the number of the end at which the residual arc in this way along arc k leaves
 abbrev pub end_number : ℕ → Way → ℕ
@@ -46,15 +45,3 @@ pub record HasCome (g : GraphView) (v : ℕ) (current : Option ℕ) (P : ℕ →
 abbrev pub ends_left : Option ℕ → ℕ
 ends_left None = 0
 ends_left (Some current) = current + 1
-
--- ---- the quick walk
-
--- the arc and the other node of an end are there
-pub record IsWithin (g : GraphView) (end : End) : Type 0 where
-  pub arc : end.number / 2 < length g.rows
-  pub other : end.other ≤ g.net.nodes
-
--- what contracts see of a quick walk: the graph, and how much is left
-pub record WalkView : Type 0 where
-  pub graph : GraphView
-  pub left : ℕ

@@ -11,18 +11,14 @@ ghost use Rattle.residual_graph.specs.Residual.{IsPseudoflow, IsResidual, row_at
 ghost use Rattle.residual_graph.specs.Walk.{IsNextEnd, StandsAt, ends_before};
 
 use crate::residual::{ResidualArc, Way};
-use crate::star::{End, Star};
 use dimacs_text::ArcRow;
 use network::Network;
-use std::alloc::{AllocError, Global};
 use std::marker::Model;
 
-/// A network, and a quick table of the ends at its nodes. What changes one of the two keeps them together.
+/// A network, as searches read it.
 #[derive(Drop)]
 pub struct Graph {
     net: Network,
-    /// The ends at each node of the arcs that it began with.
-    star: Star,
 }
 
 impl Model for Graph {
@@ -38,15 +34,11 @@ impl Model for Graph {
 
 impl Graph {
     /// The graph of a network.
-    ///
-    /// # Errors
-    /// Memory for a table was refused.
-    pub fn new(alloc: Global, net: Network) -> Result<Graph, AllocError>
-        ensures net { IfOk result (λ g. g.net ≡ net) }
-        ensures graph { IfOk result IsGraph }
+    pub fn new(net: Network) -> Graph
+        ensures net { result.net ≡ net }
+        ensures graph { IsGraph result }
     {
-        let star = Star::new(alloc, net.nodes() as usize + 1, net.rows())?;
-        Ok(Graph { net, star })
+        Graph { net }
     }
 
     /// The network.
@@ -70,20 +62,6 @@ impl Graph {
         ensures { result + length self.now.net.arcs ≡ length self.now.rows }
     {
         self.net.return_arcs()
-    }
-
-    /// How many ends the rows have that the star covers.
-    #[inline(always)]
-    pub(crate) fn covered(&self) -> u32
-        ensures { result ≤ 2 * length self.now.rows }
-    {
-        self.star.covered().min(2 * self.rows().len() as u32)
-    }
-
-    /// The ends in the star at a node.
-    #[inline(always)]
-    pub(crate) fn ends(&self, node: u32) -> &[End] {
-        self.star.at(node)
     }
 
     /// How many ends the return arc has.
@@ -133,8 +111,6 @@ impl Graph {
         ensures one_a_row { length self.new.rows ≡ length self.old.rows }
         ensures graph { IsGraph self.new }
     {
-        let place = self.net.return_arcs() + (k as usize - 1);
-        self.star.set_cost(2 * place as u32, &row);
         self.net.set_row(k, row);
     }
 
@@ -169,10 +145,7 @@ impl Graph {
         ensures rows { self.old.rows ≡ self.new.rows ++ result ∷ [] }
         ensures graph { IsGraph self.new }
     {
-        let row = self.net.pop_arc();
-        let rows = self.net.rows().len() as u32;
-        self.star.keep(2 * rows);
-        row
+        self.net.pop_arc()
     }
 
     /// The row of an arc.

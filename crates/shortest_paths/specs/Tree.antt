@@ -2,7 +2,7 @@
 use Rattle.std.specs.Prelude.{◌≡◌, ℕ, ◌<◌, ℤ, Any, Bool, List, false, length, true}
 use Rattle.dimacs_text.specs.declared.problem.ArcRow.{ArcRow}
 use Rattle.residual_graph.specs.Residual.{row_at}
-use Rattle.residual_graph.specs.declared.residual_network.Residual.{Residual}
+use Rattle.shortest_paths.specs.declared.residual_network.Residual.{Residual}
 use Rattle.tracked.specs.Marks.{in_set}
 use Rattle.tracked.specs.Touched.{AgreeAt}
 use Rattle.shortest_paths.specs.declared.predecessor.Predecessor.{Predecessor}
@@ -21,9 +21,10 @@ pub record TreeView : Type 0 where
   pub predecessors : List Predecessor
   pub held : HeldView
 
--- it has a label for each node of a residual network
-abbrev pub IsTreeOf : Residual → TreeView → Type 0
-IsTreeOf net t = length t.labels ≡ length net.potentials.now
+-- it has a label for each node of a residual network, whose table of ends has an entry for each, too
+pub record IsTreeOf (net : Residual) (t : TreeView) : Type 0 where
+  pub labels : length t.labels ≡ length net.potentials.now
+  pub ends : net.ends.now ≡ length net.potentials.now
 
 module _ {T : Type 0} where
   -- two tables agree wherever there is no mark

@@ -2,8 +2,8 @@
 //!
 //! Proved is that each call returns, and that no index leaves its range.
 
+use crate::residual_network::Residual;
 use crate::step::Step;
-use residual_graph::Residual;
 use std::alloc::{AllocError, Global};
 
 /// The residual arc by which a node hangs on another one, and the nodes that are joined to it. Node 0 stands for none.
@@ -14,6 +14,9 @@ pub(crate) struct Joint {
     /// The node at that end, or 0 where the residual arc does not lead to this node.
     pub above: u32,
     pub cost: i64,
+    /// Whether the residual arc has room, and whether the one back to that node has.
+    pub is_open: bool,
+    pub is_open_back: bool,
     /// Whether it is joined to that node.
     pub is_joined: bool,
     pub is_reached: bool,
@@ -27,6 +30,8 @@ const ALONE: Joint = Joint {
     end: u32::MAX,
     above: 0,
     cost: 0,
+    is_open: false,
+    is_open_back: false,
     is_joined: false,
     is_reached: false,
     first: 0,
@@ -54,13 +59,29 @@ impl Forest {
         self.joints.fill(ALONE);
     }
 
-    /// Forgets that of these nodes: the rows of arcs at them may be others.
-    pub fn forget(&mut self, nodes: &[u32]) {
-        for node in nodes {
-            let v = *node as usize;
-            if v < self.joints.len() {
-                self.joints[v] = ALONE;
+    /// Forgets that of the nodes at these arcs, which may have another row or another flow.
+    pub fn forget_at(&mut self, residual: Residual<'_>, arcs: &[u32]) {
+        for arc in arcs {
+            let k = *arc as usize;
+            if k < residual.graph.rows().len() {
+                let row = residual.graph.row(k);
+                self.forget(row.tail);
+                self.forget(row.head);
             }
+        }
+    }
+
+    /// Forgets by which residual arcs these nodes hang.
+    pub fn forget_all(&mut self, nodes: &[u32]) {
+        for node in nodes {
+            self.forget(*node);
+        }
+    }
+
+    /// Forgets by which residual arc a node hangs.
+    fn forget(&mut self, v: u32) {
+        if (v as usize) < self.joints.len() {
+            self.joints[v as usize] = ALONE;
         }
     }
 
@@ -100,6 +121,8 @@ impl Forest {
             if step.far == v {
                 joint.above = step.start;
                 joint.cost = step.cost;
+                joint.is_open = step.is_open;
+                joint.is_open_back = step.is_open_back;
             }
         }
         self.joints[v as usize] = joint;

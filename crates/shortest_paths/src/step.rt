@@ -1,9 +1,9 @@
-//! Residual arcs as their rows have them.
+//! Residual arcs as their rows and the flow have them.
 
 ghost use Rattle.std.specs.Prelude.{◌<◌, IfSome, length};
 
 use crate::predecessor::leaving;
-use residual_graph::Residual;
+use crate::residual_network::Residual;
 
 /// A residual arc.
 #[derive(Clone, Copy)]
@@ -14,6 +14,9 @@ pub(crate) struct Step {
     pub start: u32,
     pub far: u32,
     pub cost: i64,
+    /// Whether it has room, and whether the one that leads back has.
+    pub is_open: bool,
+    pub is_open_back: bool,
 }
 
 impl Step {
@@ -33,6 +36,8 @@ impl Step {
             start: arc.way.start(&row),
             far: arc.way.end(&row),
             cost: arc.way.unit_cost(&row),
+            is_open: arc.way.room(&row, residual.flow[k]) > 0,
+            is_open_back: arc.way.other().room(&row, residual.flow[k]) > 0,
         })
     }
 }
@@ -40,4 +45,9 @@ impl Step {
 /// The end at the other node of an arc.
 pub(crate) fn across(end: u32) -> u32 {
     end ^ 1
+}
+
+/// The end of an arc at its tail.
+pub(crate) fn tail_of(arc: u32) -> u32 {
+    arc.saturating_mul(2)
 }

@@ -13,10 +13,10 @@ mod whole;
 use crate::agenda::Agenda;
 use crate::forest::Forest;
 use crate::predecessor::Predecessor;
-use crate::rooms::Rooms;
+use crate::residual_network::Residual;
 use crate::step::{Step, across};
 use containers::both;
-use residual_graph::{Graph, Residual, Walk};
+use residual_graph::Graph;
 use std::alloc::{AllocError, Global};
 use std::marker::Model;
 use tracked::{Touched, Tracked};
@@ -61,8 +61,6 @@ pub struct Tree {
     /// The nodes that have a label and are to be settled. A node's key is how far its label is above its potential.
     agenda: Agenda,
     forest: Forest,
-    /// As they were when the tree was mended last.
-    rooms: Rooms,
 }
 
 impl Model for Tree {
@@ -114,10 +112,9 @@ impl Tree {
         let loose = Vec::with_capacity(alloc, entries);
         let agenda = Agenda::new(alloc, entries);
         let forest = Forest::new(alloc, entries);
-        let rooms = Rooms::new(alloc, arcs.min(MOST_ROWS));
-        let (((labels, predecessors), (noted, beside)), ((loose, agenda), (forest, rooms))) = both(
+        let (((labels, predecessors), (noted, beside)), ((loose, agenda), forest)) = both(
             both(both(labels, predecessors), both(noted, beside)),
-            both(both(loose, agenda), both(forest, rooms)),
+            both(both(loose, agenda), forest),
         )?;
         Ok(Tree {
             labels,
@@ -129,7 +126,6 @@ impl Tree {
             loose,
             agenda,
             forest,
-            rooms,
         })
     }
 
@@ -271,12 +267,11 @@ impl Tree {
         ensures held { self.new.held ≡ self.old.held }
     {
         let nodes = residual.potentials.len();
-        if self.labels.entries().len() != nodes {
+        if self.labels.entries().len() != nodes || residual.ends.entries() != nodes {
             return false;
         }
         self.agenda.clear();
         self.forest.clear();
-        self.rooms.fit(residual, 0);
         for v in 0..nodes {
             self.wait(residual, v as u32, 0, Predecessor::root());
         }
@@ -289,17 +284,31 @@ impl Tree {
         ensures sized { length self.new.labels ≡ length self.old.labels }
         ensures held { self.new.held ≡ self.old.held }
     {
-        if self.labels.entries().len() != residual.potentials.len() {
+        let nodes = residual.potentials.len();
+        if self.labels.entries().len() != nodes || residual.ends.entries() != nodes {
             return false;
         }
         if let Knowledge::Nothing = self.knowledge {
             return false;
         }
-        self.forest.forget(self.beside.places());
-        self.rooms.fit(residual, usize::MAX);
-        self.rooms.renew(residual, self.noted.places());
-        self.rooms.renew(residual, written);
-        self.mend_near(residual) || self.mend_whole(residual)
+        self.forest.forget_all(self.beside.places());
+        self.forest.forget_at(residual, written);
+        self.mend_near(residual, written) || self.mend_whole(residual, written)
+    }
+
+    /// How many arcs may have changed, some of them counted twice: those that are noted, and then these.
+    fn changed(&self, written: &[u32]) -> usize {
+        self.noted.places().len().saturating_add(written.len())
+    }
+
+    /// One of them, by its place among them.
+    fn changed_at(&self, written: &[u32], i: usize) -> u32 {
+        let noted = self.noted.places();
+        if i < noted.len() {
+            noted[i]
+        } else {
+            entry(written, i - noted.len())
+        }
     }
 
     /// The potential of a node that is likely to certify the flow.
@@ -367,15 +376,13 @@ impl Tree {
         let least = self.potential(residual, v as usize);
         let mut label = 0;
         let mut predecessor = Predecessor::root();
-        let mut walk = Walk::at(residual.graph, v);
-        while let Some(end) = walk.next() {
-            let by = self.labels.get(end.other as usize).saturating_sub(end.cost);
-            if by < label
-                && !self.agenda.waits(end.other)
-                && self.rooms.is_open(across(end.number))
-            {
+        let ends = residual.ends.at(v as usize);
+        for i in 0..ends.links.len() {
+            let link = ends.links[i];
+            let by = self.labels.get(link.other as usize).saturating_sub(link.cost);
+            if by < label && link.room_back::<true>() > 0 && !self.agenda.waits(link.other) {
                 label = by;
-                predecessor = self.beyond(end.other, across(end.number));
+                predecessor = self.beyond(link.other, across(ends.numbers[i]));
                 if label <= least {
                     break;
                 }
@@ -423,12 +430,13 @@ impl Tree {
         ensures sized { IsTreeOf residual.entry self.new }
         ensures held { self.new.held ≡ self.old.held }
     {
-        let mut walk = Walk::at(residual.graph, u);
-        while let Some(end) = walk.next() {
-            let label = self.labels.get(u as usize).saturating_add(end.cost);
-            if label < self.labels.get(end.other as usize) && self.rooms.is_open(end.number) {
-                let predecessor = self.beyond(u, end.number);
-                self.wait(residual, end.other, label, predecessor);
+        let ends = residual.ends.at(u as usize);
+        for i in 0..ends.links.len() {
+            let link = ends.links[i];
+            let label = self.labels.get(u as usize).saturating_add(link.cost);
+            if label < self.labels.get(link.other as usize) && link.room::<true>() > 0 {
+                let predecessor = self.beyond(u, ends.numbers[i]);
+                self.wait(residual, link.other, label, predecessor);
             }
         }
     }

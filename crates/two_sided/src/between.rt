@@ -6,7 +6,8 @@ use crate::free::FreeEnds;
 use crate::front::{Front, Meeting};
 use crate::length::FAR;
 use containers::{Nodes, Noted, Places, both};
-use relaxation::{Moved, Proposal};
+use relaxation::Proposal;
+use residual_ends::Moved;
 use std::alloc::{AllocError, Global};
 use std::marker::Model;
 
@@ -157,7 +158,7 @@ impl Between {
         requires { proposal.now ≡ self.old }
         ensures { self.new ≡ self.old }
     {
-        self.free.renew(proposal, proposal.tail_of(k));
+        self.free.renew(proposal, proposal.ends().tail_of(k));
     }
 
     /// Takes over which end of an arc got another place of a proposal, if one did.
@@ -188,7 +189,7 @@ impl Between {
         if self.roots() > MANY && !self.push_in_pairs(proposal, noted, readings) {
             return false;
         }
-        let ends = proposal.ends() as u64;
+        let ends = proposal.ends().count() as u64;
         let mut reads: u64 = 0;
         for _ in 0..u64::MAX {
             if !self.begin(proposal) {
@@ -224,7 +225,7 @@ impl Between {
         ensures kept { self.new ≡ self.old }
         ensures proposal { proposal.new ≡ proposal.old }
     {
-        let ends = proposal.ends() as u64;
+        let ends = proposal.ends().count() as u64;
         let roots = self.roots();
         let mut reads: u64 = 0;
         let mut from: usize = 0;
@@ -557,7 +558,7 @@ fn draw_along<const AHEAD: bool>(
     for place in path.listed() {
         proposal.draw::<AHEAD>(*place, amount);
         free.renew(proposal, *place);
-        noted.note(proposal.arc_at(*place));
+        noted.note(proposal.ends().number_at(*place) / 2);
     }
 }
 

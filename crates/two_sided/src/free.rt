@@ -2,7 +2,8 @@
 
 ghost use Rattle.std.specs.Prelude.{◌≡◌, ◌<◌, ◌^◌, IfOk, IsTrue};
 
-use relaxation::{Link, Moved, Proposal};
+use relaxation::Proposal;
+use residual_ends::{Link, Moved};
 use std::alloc::{AllocError, Global};
 use std::marker::Model;
 

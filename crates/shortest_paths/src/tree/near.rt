@@ -3,10 +3,10 @@
 ghost use Rattle.std.specs.Prelude.{◌≡◌, ◌<◌, length};
 ghost use Rattle.shortest_paths.specs.Tree.{IsTreeOf};
 
-use super::{FAR, Tree, entry};
+use super::{FAR, Tree};
 use crate::predecessor::Predecessor;
-use crate::step::{Step, across};
-use residual_graph::{Residual, Walk};
+use crate::residual_network::Residual;
+use crate::step::{Step, across, tail_of};
 
 /// While fewer nodes are loose, one that lost its predecessor is hung on another node at the same label, if there is
 /// one.
@@ -23,24 +23,26 @@ const MOST_MOVED: usize = 8;
 
 impl Tree {
     /// Mends the tree there, if few nodes are to be looked at, and says whether that was so.
-    pub(super) fn mend_near(&mut self, residual: Residual<'_>) -> bool
+    pub(super) fn mend_near(&mut self, residual: Residual<'_>, written: &[u32]) -> bool
         requires sized { IsTreeOf residual self.old }
         ensures sized { IsTreeOf residual.entry self.new }
         ensures held { self.new.held ≡ self.old.held }
     {
         self.agenda.clear();
         self.loose.clear();
-        for i in 0..self.rooms.changed.len() {
-            let end = entry(&self.rooms.changed, i);
-            self.loosen_along(residual, end);
+        for i in 0..self.changed(written) {
+            let arc = self.changed_at(written, i);
+            self.loosen_along(residual, tail_of(arc));
+            self.loosen_along(residual, across(tail_of(arc)));
         }
         if !self.loosen_below(residual) {
             return false;
         }
         self.hang_all(residual);
-        for i in 0..self.rooms.changed.len() {
-            let end = entry(&self.rooms.changed, i);
-            self.improve_along(residual, end);
+        for i in 0..self.changed(written) {
+            let arc = self.changed_at(written, i);
+            self.improve_along(residual, tail_of(arc));
+            self.improve_along(residual, across(tail_of(arc)));
         }
         let nodes = residual.potentials.len();
         self.settle_at_most(residual, nodes / SOME_LOOSE, false)
@@ -59,7 +61,7 @@ impl Tree {
             return;
         };
         let label = self.labels.get(step.far as usize);
-        let leads = self.rooms.is_open(end) && self.label_by(step) <= label;
+        let leads = step.is_open && self.label_by(step) <= label;
         if self.hangs(step.far, end) && !leads {
             self.loosen(residual, step.far);
         }
@@ -98,17 +100,18 @@ impl Tree {
         let label = self.labels.get(v as usize);
         let hung = self.predecessors.get(v as usize);
         let mut end = hung.end;
-        let mut walk = Walk::at(residual.graph, v);
-        while let Some(here) = walk.next() {
+        let ends = residual.ends.at(v as usize);
+        for i in 0..ends.links.len() {
+            let link = ends.links[i];
             if self
                 .labels
-                .get(here.other as usize)
-                .saturating_sub(here.cost)
+                .get(link.other as usize)
+                .saturating_sub(link.cost)
                 == label
-                && self.rooms.is_open(across(here.number))
-                && self.predecessors.get(here.other as usize).rank < hung.rank
+                && link.room_back::<true>() > 0
+                && self.predecessors.get(link.other as usize).rank < hung.rank
             {
-                end = across(here.number);
+                end = across(ends.numbers[i]);
                 break;
             }
         }
@@ -146,10 +149,14 @@ impl Tree {
         ensures sized { IsTreeOf residual.entry self.new }
         ensures held { self.new.held ≡ self.old.held }
     {
-        let mut walk = Walk::at(residual.graph, u);
-        while let Some(end) = walk.next() {
-            if self.hangs(end.other, end.number) {
-                self.loosen(residual, end.other);
+        if u as usize >= residual.potentials.len() {
+            return;
+        }
+        let ends = residual.ends.at(u as usize);
+        for i in 0..ends.links.len() {
+            let other = ends.links[i].other;
+            if self.hangs(other, ends.numbers[i]) {
+                self.loosen(residual, other);
             }
         }
     }
@@ -177,7 +184,7 @@ impl Tree {
             return;
         };
         let label = self.label_by(step);
-        if self.rooms.is_open(end) && label < self.labels.get(step.far as usize) {
+        if step.is_open && label < self.labels.get(step.far as usize) {
             let predecessor = self.beyond(step.start, end);
             self.wait(residual, step.far, label, predecessor);
         }

@@ -4,10 +4,10 @@
 ghost use Rattle.std.specs.Prelude.{◌≡◌, ◌<◌, length};
 ghost use Rattle.shortest_paths.specs.Tree.{IsTreeOf};
 
-use super::{FAR, MOST_SETTLED, Tree, entry};
+use super::{FAR, MOST_SETTLED, Tree};
 use crate::predecessor::Predecessor;
-use crate::step::{Step, across};
-use residual_graph::{Residual, Walk};
+use crate::residual_network::Residual;
+use crate::step::{Step, across, tail_of};
 
 /// Where more than one node in so many was not reached, residual arcs from nodes that were are looked for.
 const MOST_LEFT: usize = 4;
@@ -19,7 +19,7 @@ impl Tree {
     /// Makes the labels the potentials, shifted so that the greatest is 0, and mends the tree for these. What still
     /// hangs together is reached as a block; only nodes that are not reached so get other labels. Says whether all
     /// labels may be right now.
-    pub(super) fn mend_whole(&mut self, residual: Residual<'_>) -> bool
+    pub(super) fn mend_whole(&mut self, residual: Residual<'_>, written: &[u32]) -> bool
         requires sized { IsTreeOf residual self.old }
         ensures sized { IsTreeOf residual.entry self.new }
         ensures held { self.new.held ≡ self.old.held }
@@ -27,7 +27,7 @@ impl Tree {
         self.agenda.clear();
         self.relabel_all(residual);
         self.join_all(residual);
-        self.reach_along_all(residual);
+        self.reach_along_all(residual, written);
         self.reach_others(residual);
         self.release_others(residual);
         let most = residual.potentials.len() * MOST_SETTLED;
@@ -85,7 +85,7 @@ impl Tree {
         if above != 0
             && above < self.labels.entries().len()
             && self.labels.get(above).saturating_add(joint.cost) == self.labels.get(v as usize)
-            && self.rooms.is_open(end)
+            && joint.is_open
         {
             self.forest.join(v);
         }
@@ -93,16 +93,17 @@ impl Tree {
 
     /// Reaches nodes along the residual arcs that changed, as long as there is one: along a path of pushes blocks hang
     /// together.
-    fn reach_along_all(&mut self, residual: Residual<'_>)
+    fn reach_along_all(&mut self, residual: Residual<'_>, written: &[u32])
         requires sized { IsTreeOf residual self.old }
         ensures sized { IsTreeOf residual.entry self.new }
         ensures held { self.new.held ≡ self.old.held }
     {
         for _ in 0..MOST_ROUNDS {
             let before = self.agenda.ready();
-            for i in 0..self.rooms.changed.len() {
-                let end = entry(&self.rooms.changed, i);
-                self.reach_along(residual, end);
+            for i in 0..self.changed(written) {
+                let arc = self.changed_at(written, i);
+                self.reach_along(residual, tail_of(arc));
+                self.reach_along(residual, across(tail_of(arc)));
             }
             if self.agenda.ready() == before {
                 return;
@@ -119,7 +120,7 @@ impl Tree {
         let Some(step) = Step::at(residual, end) else {
             return;
         };
-        if self.label_by(step) == self.labels.get(step.far as usize) {
+        if step.is_open && self.label_by(step) == self.labels.get(step.far as usize) {
             self.reach_beyond(residual, step.start, step.far, end);
         }
     }
@@ -159,32 +160,33 @@ impl Tree {
         ensures sized { IsTreeOf residual.entry self.new }
         ensures held { self.new.held ≡ self.old.held }
     {
-        let mut walk = Walk::at(residual.graph, v);
-        while let Some(end) = walk.next() {
-            let label = self.labels.get(v as usize).saturating_add(end.cost);
-            if label != self.labels.get(end.other as usize) {
+        let ends = residual.ends.at(v as usize);
+        for i in 0..ends.links.len() {
+            let link = ends.links[i];
+            let label = self.labels.get(v as usize).saturating_add(link.cost);
+            if label != self.labels.get(link.other as usize) {
                 continue;
             }
+            let end = ends.numbers[i];
             if self.forest.joint(v).is_reached {
-                self.reach_beyond(residual, v, end.other, end.number);
-                continue;
+                if link.room::<true>() > 0 {
+                    self.reach_beyond(residual, v, link.other, end);
+                }
+            } else if link.room_back::<true>() > 0 {
+                self.reach_beyond(residual, link.other, v, across(end));
             }
-            self.reach_beyond(residual, end.other, v, across(end.number));
         }
     }
 
-    /// Reaches a node from another one that was reached, where the residual arc between them has room that leaves at this end,
-    /// and all that is joined to it.
+    /// Reaches a node from another one, if that was reached, along the residual arc that leaves at this end, and all that is
+    /// joined to it.
     fn reach_beyond(&mut self, residual: Residual<'_>, start: u32, far: u32, end: u32)
         requires sized { IsTreeOf residual self.old }
         requires start { start < length residual.potentials.now }
         ensures sized { IsTreeOf residual.entry self.new }
         ensures held { self.new.held ≡ self.old.held }
     {
-        if self.forest.joint(far).is_reached
-            || !self.forest.joint(start).is_reached
-            || !self.rooms.is_open(end)
-        {
+        if self.forest.joint(far).is_reached || !self.forest.joint(start).is_reached {
             return;
         }
         let place = self.agenda.ready();
@@ -232,9 +234,8 @@ impl Tree {
         ensures held { self.new.held ≡ self.old.held }
     {
         let joint = self.forest.joint(v);
-        let back = across(joint.end);
-        if joint.is_joined && self.rooms.is_open(back) {
-            let predecessor = self.beyond(v, back);
+        if joint.is_joined && joint.is_open_back {
+            let predecessor = self.beyond(v, across(joint.end));
             self.reach(joint.above, predecessor);
         }
         let mut below = joint.first;

@@ -1,16 +1,9 @@
-use Rattle.std.proofs.Common.{◌≡◌, true}
 use Rattle.residual_graph.specs.Walk.{HasCome, ends_left}
 use Rattle.augmentation.specs.Held.{HoldsAlong}
 use Rattle.augmentation.proofs.held.holds_at.Given as goal
 
 abbrev pub invariant-loop-guess : goal.invariant-loop-guess
-invariant-loop-guess l = record {
-  graph : l.guesses.graph ≡ l.on.graph.now;
-  come : l.is_right ≡ true → HasCome l.on.graph.now l.node l.current (HoldsAlong l.on.graph.now.rows l.on.flow.now l.on.labels.now l.on.predecessors.now);
-}
-
-abbrev pub decreases-loop-guess : goal.decreases-loop-guess
-decreases-loop-guess l = l.guesses.left
+invariant-loop-guess l = HasCome l.on.graph.now l.node l.current (HoldsAlong l.on.graph.now.rows l.on.flow.now l.on.labels.now l.on.predecessors.now)
 
 abbrev pub invariant-loop-current : goal.invariant-loop-current
 invariant-loop-current l = HasCome l.on.graph.now l.node l.current (HoldsAlong l.on.graph.now.rows l.on.flow.now l.on.labels.now l.on.predecessors.now)

@@ -17,7 +17,7 @@ loop-node-init c =
 pub loop-node-preserved : goal.loop-node-preserved
 loop-node-preserved c =
     let before = c.loop-node.invariant in
-    let grown = subst (λ (set : List Bool). IsGrown c.args.side c.args.graph.now.rows c.args.flow.now c.loop-node.marked set) (sym c.note.ensures) (IsGrown-then c.in-Some.ensures.some c.mark_reached.ensures) in
+    let grown = subst (λ (set : List Bool). IsGrown c.args.on.side c.args.on.graph.now.rows c.args.on.flow.now c.loop-node.marked set) (sym c.note.ensures) (IsGrown-then c.in-Some.ensures.some c.mark_reached.ensures) in
     record {
       same_size = grown.same_size ∙ before.same_size;
       holds = λ v root. grown.kept v (before.holds v root);

@@ -1,7 +1,7 @@
 //! An arc as a proposal takes it over.
 
 ghost use Rattle.std.specs.Prelude.{◌≡◌, IsTrue};
-ghost use Rattle.relaxation.specs.Limits.{IsInLimits};
+ghost use Rattle.residual_ends.specs.Limits.{IsInLimits};
 
 use crate::limits::{COST_LIMIT, ROOM_LIMIT};
 

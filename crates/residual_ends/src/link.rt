@@ -1,7 +1,7 @@
-//! The ends of arcs at a node.
+//! An end of an arc at a node.
 
 ghost use Rattle.std.specs.Prelude.{◌≡◌, pos, ◌+◌, ◌≤◌, ◌≤ℤ◌, IfSome};
-ghost use Rattle.relaxation.specs.Limits.{IsInLimits, IsWithin, cost_limit, rest_limit, room_limit};
+ghost use Rattle.residual_ends.specs.Limits.{IsInLimits, IsWithin, cost_limit, room_limit};
 
 use crate::arc::Arc;
 
@@ -110,13 +110,4 @@ impl Link {
             entering: entering as u32,
         })
     }
-}
-
-/// A number as a side sees it: behind, excess is deficit and a potential counts the other way.
-#[inline(always)]
-pub fn seen<const AHEAD: bool>(number: i64) -> i64
-    requires { IsWithin rest_limit number }
-    ensures { IsWithin rest_limit result }
-{
-    if AHEAD { number } else { -number }
 }
