@@ -20,7 +20,7 @@ use crate::refusal::{Refusal, StepRefusal};
 use dimacs_text::{Edit, Name, Problem};
 use flow_solver::{Tables, Verdict};
 use history::History;
-use network::{Network, build};
+use network::{Network, build, build_from};
 use std::alloc::{AllocError, Allocator, Global};
 use std::marker::Model;
 
@@ -61,6 +61,21 @@ impl Session {
     {
         Session::open_in(alloc, alloc, problem, extra)
     }
+
+    /// The same on a problem that is given up, so that its arcs are not held twice.
+    ///
+    /// # Errors
+    /// Memory for the tables was refused.
+    pub fn open_from(alloc: Global, problem: Problem, extra: u32) -> Result<Self, AllocError>
+        ensures past { IfOk result (λ s. s.moments.past ≡ []) }
+        ensures future { IfOk result (λ s. s.moments.future ≡ []) }
+        ensures records { IfOk result (λ s. s.records ≡ []) }
+        ensures marks { IfOk result (λ s. s.marks ≡ []) }
+        ensures instance { IfOk result (λ s. s.moments.present.instance ≡ first problem extra) }
+        ensures answered { IfOk result (λ s. IsAnswered s.moments.present) }
+    {
+        Session::over(alloc, alloc, build_from(alloc, problem, extra)?)
+    }
 }
 
 impl<A: Allocator + Copy> Session<A> {
@@ -81,7 +96,19 @@ impl<A: Allocator + Copy> Session<A> {
         ensures instance { IfOk result (λ s. s.moments.present.instance ≡ first problem.now extra) }
         ensures answered { IfOk result (λ s. IsAnswered s.moments.present) }
     {
-        let mut tables = Tables::new(alloc, build(alloc, problem, extra)?)?;
+        Session::over(alloc, steps, build(alloc, problem, extra)?)
+    }
+
+    /// Opens a session on a network.
+    fn over(alloc: Global, steps: A, network: Network) -> Result<Self, AllocError>
+        ensures past { IfOk result (λ s. s.moments.past ≡ []) }
+        ensures future { IfOk result (λ s. s.moments.future ≡ []) }
+        ensures records { IfOk result (λ s. s.records ≡ []) }
+        ensures marks { IfOk result (λ s. s.marks ≡ []) }
+        ensures instance { IfOk result (λ s. s.moments.present.instance ≡ network) }
+        ensures answered { IfOk result (λ s. IsAnswered s.moments.present) }
+    {
+        let mut tables = Tables::new(alloc, network)?;
         tables.settle();
         Ok(Session {
             tables,

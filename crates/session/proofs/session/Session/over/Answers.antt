@@ -1,4 +1,4 @@
-use Rattle.std.proofs.Common.{rules, ◌≡◌, zero, suc, ◌++◌, ◌∷◌, [], ◌<◌, List, length, reverse, sym, subst, arith}
+use Rattle.std.proofs.Common.{◌≡◌, zero, suc, ◌++◌, ◌∷◌, [], ◌<◌, List, length, reverse, sym, subst, arith}
 use Rattle.std.proofs.lemmas.List.Elements.{All-nil}
 use Rattle.std.specs.List.{All}
 use Rattle.history.specs.Boards.{Changes, FitInTurn, all_boards, boards, met}
@@ -9,7 +9,7 @@ use Rattle.session.specs.Marks.{AreMarks, AreOn}
 use Rattle.session.specs.Record.{Recorded, RecordFits, Differs, with_record}
 use Rattle.session.specs.Session.{IsSessionAt}
 use Rattle.session.proofs.Apart.{none_at_first}
-use Rattle.session.proofs.session.Session.open_in.Goals as goal
+use Rattle.session.proofs.session.Session.over.Goals as goal
 
 -- so is each of one moment
 all_one : (m : Moment) → IsAnswered m → All IsAnswered (m ∷ [])
@@ -37,6 +37,3 @@ held_fresh h m marks past future answered none = record {
 
 pub invariant_of-result : goal.invariant_of-result
 invariant_of-result g c = held_fresh c.new-2.result c.settle.new.self.moment c.new-3.result c.new-2.ensures.past c.new-2.ensures.future c.settle.ensures.answered c.new-3.ensures
-
-pub returns-clause-instance : goal.returns-clause-instance
-returns-clause-instance g c = search rules
