@@ -9,6 +9,7 @@
 
 mod arc;
 mod arcs;
+mod ascent;
 mod candidates;
 mod grow;
 mod limits;
@@ -23,6 +24,7 @@ mod windows;
 
 pub use arc::Arc;
 pub use arcs::{ArcEnds, Moved};
+pub use ascent::ascend;
 pub use limits::REST_LIMIT;
 pub use link::{Link, seen};
 pub use proposal::{Ends, Proposal};
