@@ -187,19 +187,39 @@ fn lower_set<const AHEAD: bool>(proposal: &mut Proposal, ring: &mut Ring, sets: 
     ensures sets { sets.new.reach ≡ sets.old.reach }
 {
     let held = survey_set::<AHEAD>(proposal, sets);
-    let Some(shift) = sets.candidates.least_shift(held) else {
+    if !lower_inside::<AHEAD>(proposal, ring, sets, held) {
         ring.leave(s);
-        return;
+    }
+}
+
+/// Lowers the potentials of the set to where the residual arcs out of it, which are listed, can carry so much, and fills those
+/// that would be of negative reduced cost; says whether there is such room.
+pub fn lower_inside<const AHEAD: bool>(
+    proposal: &mut Proposal,
+    ring: &mut Ring,
+    sets: &mut Sets,
+    held: i64,
+) -> bool
+    requires ring { ring.old ≡ proposal.old }
+    requires sets { sets.old.reach ≡ proposal.old }
+    requires few { proposal.old < 2 ^ 32 }
+    ensures proposal { proposal.new ≡ proposal.old }
+    ensures ring { ring.new ≡ ring.old }
+    ensures sets { sets.new.reach ≡ sets.old.reach }
+{
+    let Some(shift) = sets.candidates.least_shift(held) else {
+        return false;
     };
     fill_below::<AHEAD>(proposal, ring, &sets.candidates, shift);
     for u in sets.reach.inside() {
         let _lowered = proposal.lower::<AHEAD>(*u as usize, shift);
         wake(proposal, ring, *u as usize);
     }
+    true
 }
 
 /// Lists the residual arcs out of the set, and gives what lies in it.
-fn survey_set<const AHEAD: bool>(proposal: &Proposal, sets: &mut Sets) -> i64
+pub fn survey_set<const AHEAD: bool>(proposal: &Proposal, sets: &mut Sets) -> i64
     requires sets { sets.old.reach ≡ proposal.now }
     ensures { sets.new.reach ≡ sets.old.reach }
 {

@@ -8,6 +8,7 @@
 #![tactic(auto)]
 
 mod arcs;
+mod ascent;
 mod candidates;
 mod grow;
 mod limits;
@@ -19,6 +20,7 @@ mod signs;
 mod step;
 mod windows;
 
+pub use ascent::ascend;
 pub use limits::REST_LIMIT;
 pub use proposal::Proposal;
 pub use ring::Ring;
