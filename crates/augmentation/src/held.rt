@@ -179,12 +179,7 @@ fn hold_there(
 }
 
 /// Whether labels that are held certify the flow, and are the greatest that do.
-pub(crate) fn holds(
-    graph: &Graph,
-    flow: &Tracked<i64>,
-    ends: &ResidualEnds,
-    tree: &Tree,
-) -> bool
+pub(crate) fn holds(graph: &Graph, flow: &Tracked<i64>, ends: &ResidualEnds, tree: &Tree) -> bool
     requires graph { HasEntries (length tree.now.labels) graph.now }
     requires flow { IsPseudoflow (length tree.now.labels) graph.now.rows flow.now.entries }
     requires held { IsHeldIn graph.now.rows flow.now.whole tree.now.held }

@@ -174,7 +174,13 @@ fn raise_near(
     attempt.keep_step(graph, flow.entries());
     let tree = &mut scratch.tree;
     tree.lower(0);
-    if !is_renewed(graph, flow, potentials.entries(), attempt.proposals.ends(), tree) {
+    if !is_renewed(
+        graph,
+        flow,
+        potentials.entries(),
+        attempt.proposals.ends(),
+        tree,
+    ) {
         return false;
     }
     write_labels(potentials, apart, tree, &mut attempt.proposals);

@@ -29,17 +29,13 @@ pub(crate) struct OnSide<'a> {
 }
 
 /// Marks the nodes of a side, and no other.
-pub(crate) fn mark_side(
-    on: OnSide<'_>,
-    excess: &Excess,
-    marked: &mut Touched,
-    hops: &mut Vec<u32>,
-)
+pub(crate) fn mark_side(on: OnSide<'_>, excess: &Excess, marked: &mut Touched, hops: &mut Vec<u32>)
     requires graph { HasEntries (length excess.now) on.graph.now }
     requires flow { IsPseudoflow (length excess.now) on.graph.now.rows on.flow.now }
     requires marked_in { length marked.old ≡ length excess.now }
     ensures same_size { length marked.new ≡ length marked.old }
-    ensures side { AreOnSide on.side on.graph.now.rows on.flow.now excess.now marked.new }
+    ensures side { AreOnSide on.entry.side on.entry.graph.now.rows on.entry.flow.now excess.now
+        marked.new }
 {
     mark_roots(on.side, excess, marked);
     mark_again(on, marked, hops);
@@ -113,18 +109,28 @@ fn mark_from(on: OnSide<'_>, marked: &mut Touched, node: u32, hops: &mut Vec<u32
     let ends = on.ends.at(node as usize);
     for i in 0..ends.links.len() {
         let other = ends.links[i].other as usize;
-        let arc = ends.numbers[i] / 2;
         // Most nodes are marked already: the arc is not looked at.
-        if other >= marked.size() || marked.is_noted(other) || arc as usize >= on.graph.rows().len()
-        {
+        if other >= marked.size() || marked.is_noted(other) {
             continue;
         }
-        if let Some(far) = way_out_along(on, marked, arc) {
-            marked.note(far as usize);
-            if hops.len() < hops.capacity() {
-                hops.push_reserved(arc);
-            }
-        }
+        mark_along(on, marked, ends.numbers[i] / 2, hops);
+    }
+}
+
+/// Marks the node to which an arc leads on from a marked one, if it does, and lists the arc then.
+fn mark_along(on: OnSide<'_>, marked: &mut Touched, arc: u32, hops: &mut Vec<u32>)
+    requires flow { IsPseudoflow (length marked.old) on.graph.now.rows on.flow.now }
+    ensures { IsGrownOn on.entry marked.old marked.new }
+{
+    if arc as usize >= on.graph.rows().len() {
+        return;
+    }
+    let Some(far) = way_out_along(on, marked, arc) else {
+        return;
+    };
+    marked.note(far as usize);
+    if hops.len() < hops.capacity() {
+        hops.push_reserved(arc);
     }
 }
 

@@ -258,7 +258,9 @@ impl Proposals {
     pub fn note_all(&mut self, places: &[u32])
         ensures { self.new ≡ self.old }
     {
-        if self.standing == Standing::Adopted && places.len() > self.proposal.ends().entered() / MANY {
+        if self.standing == Standing::Adopted
+            && places.len() > self.proposal.ends().entered() / MANY
+        {
             return;
         }
         self.noted.open();

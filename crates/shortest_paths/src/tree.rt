@@ -379,7 +379,10 @@ impl Tree {
         let ends = residual.ends.at(v as usize);
         for i in 0..ends.links.len() {
             let link = ends.links[i];
-            let by = self.labels.get(link.other as usize).saturating_sub(link.cost);
+            let by = self
+                .labels
+                .get(link.other as usize)
+                .saturating_sub(link.cost);
             if by < label && link.room_back::<true>() > 0 && !self.agenda.waits(link.other) {
                 label = by;
                 predecessor = self.beyond(link.other, across(ends.numbers[i]));

@@ -253,10 +253,7 @@ fn graph_of(alloc: Global, text: &[u8]) -> Result<Graph, TextFault> {
     let Ok(network) = build(alloc, &problem, 1) else {
         return Err(TextFault::Memory);
     };
-    match Graph::new(alloc, network) {
-        Ok(graph) => Ok(graph),
-        Err(_) => Err(TextFault::Memory),
-    }
+    Ok(Graph::new(network))
 }
 
 /// The tables of the searches in a graph.

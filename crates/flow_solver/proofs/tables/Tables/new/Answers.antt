@@ -18,17 +18,17 @@ idle_zeros n =
     (omega (arith, ints, first), omega (arith, ints, first))
 
 -- the flow is that of the start
-started : (c : In_ok-potentials) → c.in_ok-flow.flow.entries ≡ map start (reduced c.in_ok-graph.graph.net).arcs
-started c = c.in_ok-flow.ensures.flow ∙ ap (map start) c.in_ok-graph.ensures.graph.rows.rows_are
+started : (c : In_ok-potentials) → c.in_ok-flow.flow.entries ≡ map start (reduced c.new-graph.result.net).arcs
+started c = c.in_ok-flow.ensures.flow ∙ ap (map start) c.new-graph.ensures.graph.rows.rows_are
 
 pub invariant_of-result : goal.invariant_of-result
 invariant_of-result c =
-    let graph = c.in_ok-graph.graph in
+    let graph = c.new-graph.result in
     let nodes = c.in_ok-potentials.ensures in
     let entries : c.nodes.result + 1 ≡ graph.net.nodes + 1 = ap (λ (n : ℕ). n + 1) (c.nodes.ensures.value ∙ ap (λ (I : Instance). I.nodes) c.network-2.ensures) in
     record {
       fit = record {
-        graph = c.in_ok-graph.ensures.graph;
+        graph = c.new-graph.ensures.graph;
         flow_in = ap (λ (xs : List ℤ). length xs) c.in_ok-flow.ensures.flow ∙ length-map graph.rows start;
         flow_whole = ap (λ (xs : List ℤ). length xs) c.in_ok-flow.ensures.whole ∙ length-map graph.rows start;
         flow_fits = omega (arith, c.in_ok-flow.ensures.room);
@@ -51,8 +51,8 @@ invariant_of-result c =
 
 pub returns-clause-start : goal.returns-clause-start
 returns-clause-start c =
-    let graph = c.in_ok-graph.ensures in
-    let one_more : c.in_ok-graph.graph.net.nodes + 1 ≡ suc c.in_ok-graph.graph.net.nodes = omega arith in
+    let graph = c.new-graph.ensures in
+    let one_more : c.new-graph.result.net.nodes + 1 ≡ suc c.new-graph.result.net.nodes = omega arith in
     record {
       instance = graph.net;
       flow = started c ∙ ap (λ (I : Instance). map start (reduced I).arcs) graph.net;
@@ -61,7 +61,7 @@ returns-clause-start c =
 
 pub returns-clause-certified : goal.returns-clause-certified
 returns-clause-certified c =
-    let I = c.in_ok-graph.graph.net in
+    let I = c.new-graph.result.net in
     let potentials = c.in_ok-potentials.potentials.table.entries in
     subst (λ (x : List ℤ). IsCertifiedFlow (reduced I) x (at_node (drop 1 potentials))) (sym (started c))
-    (start_certified I (at_node (drop 1 potentials)) c.in_ok-graph.ensures.graph.rows.lawful (λ v. ap (λ (p : List ℤ). at_node (drop 1 p) v) c.in_ok-potentials.ensures.potentials ∙ zero_entries (c.nodes.result + 1) v))
+    (start_certified I (at_node (drop 1 potentials)) c.new-graph.ensures.graph.rows.lawful (λ v. ap (λ (p : List ℤ). at_node (drop 1 p) v) c.in_ok-potentials.ensures.potentials ∙ zero_entries (c.nodes.result + 1) v))
