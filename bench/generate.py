@@ -215,8 +215,9 @@ def stars(draw, nodes, arcs):
     return problem.lines()
 
 
-def regions(draw, nodes, arcs):
-    """Two regions of no cost inside, joined by arcs of distinct costs, with sources in the one and sinks in the other."""
+def regions(draw, nodes, arcs, inner=0):
+    """Two regions, joined by arcs of distinct costs, with sources in the one and sinks in the other. Inside arcs cost at most
+    `inner`."""
     half = nodes // 2
     links = max(1, arcs - 4 * half)
     costs = list(range(1, links + 1))
@@ -226,11 +227,36 @@ def regions(draw, nodes, arcs):
     for node in range(2 * half):
         first = node // half * half
         for other in ((node + 1) % half, draw.randrange(half)):
-            problem.add(node + 1, first + other + 1, 0, 4 * links, 0)
+            problem.add(node + 1, first + other + 1, 0, 4 * links, draw.randint(0, inner) if inner else 0)
     for k, cost in enumerate(costs):
         room = draw.randint(1, 3)
         problem.ship(k % ends + 1, 2 * half - k % ends, room)
         problem.add(draw.randint(1, half), half + draw.randint(1, half), 0, room, cost)
+    return problem.lines()
+
+
+def dear_regions(draw, nodes, arcs):
+    """The same with costs inside."""
+    return regions(draw, nodes, arcs, inner=50)
+
+
+def bridges(draw, nodes, arcs):
+    """Sources and sinks of one unit, each joined to some of a few arcs of limited room, over which all goes."""
+    count = min(10, nodes // 4)
+    ends = (nodes - 2 * count) // 2
+    problem = MinProblem(2 * count + 2 * ends)
+    for bridge in range(count):
+        problem.add(2 * bridge + 1, 2 * bridge + 2, 0, 2 * ends // count + 1, draw.randint(1, 10**9))
+    more = max(0, min(count, arcs // (2 * ends)) - 1)
+    for k in range(ends):
+        source = 2 * count + 1 + k
+        problem.ship(source, source + ends, 1)
+        # Source and sink have one bridge in common, so that there is a flow.
+        others = [bridge for bridge in range(count) if bridge != k % count]
+        for bridge in [k % count] + draw.sample(others, more):
+            problem.add(source, 2 * bridge + 1, 0, 1, draw.randint(1, 10**9))
+        for bridge in [k % count] + draw.sample(others, more):
+            problem.add(2 * bridge + 2, source + ends, 0, 1, draw.randint(1, 10**9))
     return problem.lines()
 
 
@@ -279,6 +305,8 @@ SETS = {
         "stars": stars,
         "stars-turned": turned(stars),
         "regions": regions,
+        "regions-dear": dear_regions,
+        "bridges": bridges,
     },
 }
 SHAPES = {name: shape for shapes in SETS.values() for name, shape in shapes.items()}

@@ -48,6 +48,8 @@ pub struct Search {
     got: usize,
     /// How many nodes were settled since counting began.
     settled_nodes: u64,
+    /// How many ends of arcs searches looked at.
+    pub(crate) looks: u64,
     /// How many pushes were made.
     pub(crate) pushes: u64,
 }
@@ -96,6 +98,7 @@ impl Search {
             goals: 0,
             got: 0,
             settled_nodes: 0,
+            looks: 0,
             pushes: 0,
         })
     }
@@ -269,6 +272,7 @@ impl Search {
         let reach = self.records.reach(u);
         let depth = self.records.get(u).depth.saturating_add(1);
         let links = proposal.ends_at(u).links;
+        self.looks = self.looks.saturating_add(links.len() as u64);
         let mut next = 0;
         while let Some(k) = nearer_from::<AHEAD>(&self.records, proposal, links, next, reach) {
             let link = &links[k];
