@@ -55,12 +55,7 @@ pub fn add(
 
 /// Frees the place behind a node's links, where one is free at most `left` nodes away, and says whether it is. For that the
 /// links of the nodes up to there move by one place, of each node its first or its last one alone.
-fn free_place(
-    proposal: &mut Proposal,
-    between: &mut Between,
-    v: usize,
-    left: &mut usize,
-) -> bool
+fn free_place(proposal: &mut Proposal, between: &mut Between, v: usize, left: &mut usize) -> bool
     requires between { between.old ≡ proposal.old }
     requires node { v < proposal.old }
     ensures proposal { proposal.new ≡ proposal.old }
