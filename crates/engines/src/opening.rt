@@ -21,7 +21,7 @@ pub(crate) fn open_text<P: Source>(alloc: Global, input: &mut P, extra: u32) -> 
         Ok(problem) => problem,
         Err(error) => return Err(error.end(Text::Problem)),
     };
-    match Session::open(alloc, &problem, extra) {
+    match Session::open_from(alloc, problem, extra) {
         Ok(session) => Ok(session),
         Err(_) => Err(End::Memory),
     }
