@@ -281,6 +281,11 @@ impl Proposals {
         requires { length flow.now ≡ length rows.now }
         ensures { self.new ≡ self.old }
     {
+        if self.standing == Standing::Fresh {
+            // What is wanted is not of this proposal: all arcs are taken over.
+            load_arcs(&mut self.proposal, rows, flow);
+            return;
+        }
         if self.returned.is_some() && !rows.is_empty() {
             let _opened = self.proposal.renew(0, &arc_of(&rows[0], flow[0]));
         }
