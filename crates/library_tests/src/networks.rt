@@ -1,16 +1,30 @@
 //! The two checkers, edits and views of networks, in worked examples.
 
-use dimacs_text::{Edit, Kind, ProblemReader, TextFault};
-use network::{Network, build, check_best, check_cut};
+use dimacs_text::{Edit, Kind, Problem, ProblemReader, TextFault};
+use network::{Network, build, build_from, check_best, check_cut};
 use std::alloc::Global;
 use std::process::Abort;
 
-/// The instance of a problem text, with room for one arc more.
-fn network(alloc: Global, text: &[u8]) -> Result<Network, TextFault> {
+/// The problem of a text.
+fn problem_of(alloc: Global, text: &[u8]) -> Result<Problem, TextFault> {
     let mut reader = ProblemReader::new(alloc);
     reader.feed(text)?;
-    let problem = reader.finish()?;
+    reader.finish()
+}
+
+/// The instance of a problem text, with room for one arc more.
+fn network(alloc: Global, text: &[u8]) -> Result<Network, TextFault> {
+    let problem = problem_of(alloc, text)?;
     match build(alloc, &problem, 1) {
+        Ok(network) => Ok(network),
+        Err(_) => Err(TextFault::Memory),
+    }
+}
+
+/// The same of a problem that is given up, with room for so many arcs more.
+fn network_from(alloc: Global, text: &[u8], extra: u32) -> Result<Network, TextFault> {
+    let problem = problem_of(alloc, text)?;
+    match build_from(alloc, problem, extra) {
         Ok(network) => Ok(network),
         Err(_) => Err(TextFault::Memory),
     }
@@ -23,6 +37,10 @@ const DIAMOND: &[u8] =
     b"p min 4 5\nn 1 4\nn 4 -4\na 1 2 0 4 2\na 1 3 0 2 2\na 2 3 0 2 1\na 2 4 0 3 3\na 3 4 0 5 1\n";
 /// Node 1 has nowhere to send its unit, and node 2 is fed one of three.
 const BOTH_FORMS: &[u8] = b"p min 3 1\nn 1 1\nn 2 -3\na 3 2 0 1 1\n";
+/// Two pipes from a source to a sink, and one back.
+const PIPES: &[u8] = b"p max 2 3\nn 1 s\nn 2 t\na 1 2 5\na 2 1 4\na 1 2 3\n";
+/// One pair.
+const PAIR: &[u8] = b"p asn 2 1\nn 1\na 1 2 7\n";
 /// A lower bound that nothing feeds.
 const UNFED: &[u8] = b"p min 2 1\na 1 2 2 5 1\n";
 
@@ -199,5 +217,28 @@ fn parts(rt: HostRuntime) -> Result<(), TextFault> {
     assert!(rt; net.return_arc().is_none());
     assert!(rt; net.reduced_supply(4) == Some(-4));
     assert!(rt; net.reduced_supply(5).is_none());
+    Ok(())
+}
+
+/// A problem, for how many arcs more there is room, and the ends of the rows: the return arc of a maximum flow is first.
+static ROWS: [(&[u8], u32, &[(u32, u32)]); 6] = [
+    (SINGLE_ARC, 0, &[(1, 2)]),
+    (DIAMOND, 0, &[(1, 2), (1, 3), (2, 3), (2, 4), (3, 4)]),
+    (DIAMOND, 3, &[(1, 2), (1, 3), (2, 3), (2, 4), (3, 4)]),
+    (PIPES, 0, &[(2, 1), (1, 2), (2, 1), (1, 2)]),
+    (PIPES, 3, &[(2, 1), (1, 2), (2, 1), (1, 2)]),
+    (PAIR, 1, &[(1, 2)]),
+];
+
+#[test]
+fn rows_of_problems_given_up(rt: HostRuntime) -> Result<(), TextFault> {
+    for (text, extra, ends) in &ROWS {
+        let net = network_from(rt.alloc(), text, *extra)?;
+        assert!(rt; net.rows().len() == ends.len());
+        assert!(rt; net.room() == net.arcs().saturating_add(*extra));
+        for (row, (tail, head)) in net.rows().iter().zip(*ends) {
+            assert!(rt; row.tail == *tail && row.head == *head);
+        }
+    }
     Ok(())
 }
