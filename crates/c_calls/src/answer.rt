@@ -44,27 +44,27 @@ pub fn solve_text(alloc: Global, text: &[u8], answer: &mut Answer) -> i32
     ensures same_room { IsSameRoom answer.old answer.new }
 {
     match read_problem(alloc, text) {
-        Ok(problem) => solve_problem(alloc, &problem, answer),
+        Ok(problem) => solve_problem(alloc, problem, answer),
         Err(refused) => tell_refusal(refused, &mut answer.fault),
     }
 }
 
 /// Answers a problem, as `solve_text` does of a text that has one.
-fn solve_problem(alloc: Global, problem: &Problem, answer: &mut Answer) -> i32
-    ensures solved { result ≡ pos 0 → IsProblemSolved problem.now answer.old answer.new }
-    ensures too_short { result ≡ TOO_SHORT → IsProblemTooLong problem.now answer.old answer.new }
+fn solve_problem(alloc: Global, problem: Problem, answer: &mut Answer) -> i32
+    ensures solved { result ≡ pos 0 → IsProblemSolved problem answer.old answer.new }
+    ensures too_short { result ≡ TOO_SHORT → IsProblemTooLong problem answer.old answer.new }
     ensures otherwise { result ≢ pos 0 → result ≢ TOO_SHORT → result ≡ MEMORY }
     ensures refused { result ≢ pos 0 → AreListsKept answer.old answer.new }
     ensures view { result ≢ pos 0 → result ≢ TOO_SHORT → answer.new.view ≡ answer.old.view }
     ensures no_fault { answer.new.fault ≡ answer.old.fault }
     ensures same_room { IsSameRoom answer.old answer.new }
 {
-    if !has_room(answer, problem) {
+    if !has_room(answer, &problem) {
         answer.view.nodes = problem.nodes();
         answer.view.arcs = problem.arcs().len() as u32;
         return TOO_SHORT;
     }
-    match Session::open(alloc, problem, 0) {
+    match Session::open_from(alloc, problem, 0) {
         Ok(session) => {
             give_answer(&session, answer);
             // By a call, whose steps are proved once. At the end of a block they are proved again for each of its exits.

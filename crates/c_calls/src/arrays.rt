@@ -54,7 +54,7 @@ pub fn open_arrays(
     let Ok(problem) = problem_of(alloc, arrays) else {
         return Err(MEMORY);
     };
-    match Session::open(alloc, &problem, extra) {
+    match Session::open_from(alloc, problem, extra) {
         Ok(session) => Ok(session),
         Err(_) => Err(MEMORY),
     }

@@ -48,7 +48,7 @@ pub fn open_session(
         Ok(problem) => problem,
         Err(refused) => return Err(tell_refusal(refused, fault)),
     };
-    match Session::open(alloc, &problem, extra) {
+    match Session::open_from(alloc, problem, extra) {
         Ok(session) => Ok(session),
         Err(_) => Err(MEMORY),
     }

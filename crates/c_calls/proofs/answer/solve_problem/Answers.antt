@@ -7,7 +7,7 @@ use Rattle.c_calls.proofs.answer.solve_problem.Goals as goal
 pub returns-in-Ok-clause-solved : goal.returns-in-Ok-clause-solved
 returns-in-Ok-clause-solved c done =
     let opened = c.in-Ok.ensures in
-    let opening : IsOpeningOf c.args.problem.now 0 (state_of c.in-Ok.session) =
+    let opening : IsOpeningOf c.args.problem 0 (state_of c.in-Ok.session) =
     record { instance_is = opened.instance; answered = opened.answered; no_past = opened.past; no_future = opened.future; no_marks = opened.marks } in
     record { session = state_of c.in-Ok.session; opening = opening; room = search rules; view = c.give_answer.ensures.view; lists = c.give_answer.ensures.lists }
 
