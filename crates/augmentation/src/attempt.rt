@@ -170,7 +170,7 @@ impl Attempt {
 
 /// What proposals are to reach.
 fn aim_of(graph: &Graph) -> Aim {
-    if graph.first_row() > 0 {
+    if graph.return_arcs() > 0 {
         Aim::GreatestFlow
     } else {
         Aim::LeastCost

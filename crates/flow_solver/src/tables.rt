@@ -98,7 +98,7 @@ impl Tables {
         ensures value { result.now ≡ arc_flows self.now.moment }
         ensures one_an_arc { length result.now ≡ length self.now.moment.instance.arcs }
     {
-        &self.flow.entries()[self.graph.first_row()..]
+        &self.flow.entries()[self.graph.return_arcs()..]
     }
 
     /// The potential of each node, in the order of the nodes.

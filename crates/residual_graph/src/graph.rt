@@ -58,7 +58,7 @@ impl Graph {
     }
 
     /// The row of the first arc of the network: how many rows stand before it.
-    pub fn first_row(&self) -> usize
+    pub fn return_arcs(&self) -> usize
         ensures { result + length self.now.net.arcs ≡ length self.now.rows }
     {
         self.net.return_arcs()

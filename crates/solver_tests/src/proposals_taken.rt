@@ -346,7 +346,7 @@ fn push_from(
 
 /// Whether the flow of the network's arcs has this worth, and the potentials certify it.
 fn is_best(graph: &Graph, flow: &[i64], potentials: &[i64], worth: i128) -> bool {
-    let first = graph.first_row();
+    let first = graph.return_arcs();
     if first > flow.len() || potentials.is_empty() {
         return false;
     }

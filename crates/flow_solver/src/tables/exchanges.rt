@@ -29,7 +29,7 @@ impl Tables {
     {
         self.before.verdict = None;
         self.potentials.greatest = false;
-        let place = self.graph.first_row() + (k as usize - 1);
+        let place = self.graph.return_arcs() + (k as usize - 1);
         carry_over(
             &mut self.balance.excess,
             &self.graph.rows()[place],
@@ -100,7 +100,7 @@ impl Tables {
     {
         self.before.verdict = None;
         self.potentials.greatest = false;
-        let place = self.graph.first_row() + (k as usize - 1);
+        let place = self.graph.return_arcs() + (k as usize - 1);
         let before = self.graph.rows()[place];
         self.balance.cost = reprice(
             self.balance.cost,

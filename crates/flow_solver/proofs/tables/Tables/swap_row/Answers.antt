@@ -24,9 +24,9 @@ invariant_of-self c =
     let there = subst (λ (b : TablesView). (1 ≤ c.args.k) × (c.args.k ≤ length b.moment.instance.arcs)) (sym c.self.view_is) (c.requires.ends.0, c.requires.ends.1) in
     let tail = subst (λ (b : TablesView). row.tail ≡ (slice_index_or b.moment.instance.arcs (c.args.k - 1) row).tail) (sym c.self.view_is) c.requires.ends.2 in
     let head = subst (λ (b : TablesView). row.head ≡ (slice_index_or b.moment.instance.arcs (c.args.k - 1) row).head) (sym c.self.view_is) c.requires.ends.3 in
-    let place = c.first_row.result + (c.args.k - 1) in
+    let place = c.return_arcs.result + (c.args.k - 1) in
     let at = place_is I t.graph.rows c.args.k place inv.graph.rows.rows_are there
-    (omega (arith, c.first_row.ensures)) in
+    (omega (arith, c.return_arcs.ensures)) in
     let before : row_at c.rows.result.now place ≡ row_at t.graph.rows place = ap (λ (r : List ArcRow). row_at r place) c.rows.ensures in
     let price = to_z-of_z w64 (row_at c.rows.result.now place).cost (search rules) ∙ ap (λ a. a.cost) before in
     let factor = to_z-of_z w64 (number_at c.whole.result.now place) (search rules) ∙ ap (λ (x : List ℤ). number_at x place) c.whole.ensures.value in
@@ -52,9 +52,9 @@ returns-clause-row c =
     let t = c.self.inside in
     let k = c.args.k in
     let row = c.args.row.now in
-    let place = c.first_row.result + (k - 1) in
+    let place = c.return_arcs.result + (k - 1) in
     let there = subst (λ (b : TablesView). (1 ≤ k) × (k ≤ length b.moment.instance.arcs)) (sym c.self.view_is) (c.requires.ends.0, c.requires.ends.1) in
-    let at = place_is t.graph.net t.graph.rows k place c.self.invariant.graph.rows.rows_are there (omega (arith, c.first_row.ensures)) in
+    let at = place_is t.graph.net t.graph.rows k place c.self.invariant.graph.rows.rows_are there (omega (arith, c.return_arcs.ensures)) in
     ap (λ (r : List ArcRow). row_at r place) c.rows.ensures ∙ at.row_is row
     ∙ ap (λ (b : TablesView). slice_index_or b.moment.instance.arcs (k - 1) row) c.self.view_is
 
@@ -63,9 +63,9 @@ overflow_cast-place-2 c =
     let t = c.self.inside in
     let k = c.args.k in
     let rows = c.self.invariant.graph.rows in
-    let place = c.first_row.result + (k - 1) in
+    let place = c.return_arcs.result + (k - 1) in
     let there = subst (λ (b : TablesView). (1 ≤ k) × (k ≤ length b.moment.instance.arcs)) (sym c.self.view_is) (c.requires.ends.0, c.requires.ends.1) in
-    let at = place_is t.graph.net t.graph.rows k place rows.rows_are there (omega (arith, c.first_row.ensures)) in
+    let at = place_is t.graph.net t.graph.rows k place rows.rows_are there (omega (arith, c.return_arcs.ensures)) in
     let few = few_rows t.graph.net rows.lawful in
     let bound : place < 2 ^ 32 = omega (arith, at.in_rows, few, ap (λ (r : List ArcRow). length r) rows.rows_are) in
     search (rules, bound)

@@ -4,7 +4,7 @@ use Rattle.dimacs_text.specs.Problem.{Parsed}
 use Rattle.dimacs_text.specs.Lawful.{MarksFit}
 use Rattle.dimacs_text.proofs.SoundLemmas.{sized}
 use Rattle.dimacs_text.proofs.PlainLemmas.{both_named, row_said}
-use Rattle.dimacs_text.proofs.draft.Draft.first_row.Goals as goal
+use Rattle.dimacs_text.proofs.draft.Draft.first_arc.Goals as goal
 
 pub returns-in-Min : goal.returns-in-Min
 returns-in-Min c =
