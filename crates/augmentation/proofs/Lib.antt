@@ -10,4 +10,3 @@ pub mod ChangeLemmas
 pub mod CertificateLemmas
 pub mod HeldLemmas
 pub mod NearLemmas
-pub mod TurnedRows

@@ -1,5 +1,5 @@
 -- Tables of nodes and the sums over nodes and arcs.
-use Rattle.std.proofs.Common.{◌≡◌, ℕ, zero, suc, ◌<◌, ℤ, pos, ◌+ℤ◌, ◌≤ℤ◌, List, [], ◌∷◌, length, refl, sym, subst, inl, inr, arith, Bool, true, false, cond}
+use Rattle.std.proofs.Common.{◌≡◌, ℕ, zero, suc, ◌<◌, ℤ, pos, ◌+ℤ◌, ◌≤ℤ◌, List, [], ◌∷◌, length, refl, sym, subst, inl, inr, arith}
 use Rattle.std.specs.Prelude.{slice_index_or}
 use Rattle.std.proofs.lemmas.Int.{ints}
 use Rattle.std.proofs.lemmas.Bool.{cases_lt}
@@ -7,8 +7,6 @@ use Rattle.std.proofs.lemmas.List.{get_or_past}
 use Rattle.dimacs_text.specs.declared.problem.ArcRow.{ArcRow}
 use Rattle.network.specs.Flow.{nodes_sum, net, outflow, inflow}
 use Rattle.augmentation.specs.Push.{only_at}
-use Rattle.augmentation.specs.Cut.{sum_in}
-use Rattle.tracked.specs.Marks.{in_set}
 use Rattle.augmentation.specs.Nodes.{table, held}
 use Rattle.augmentation.proofs.PushLemmas.{at_other}
 use Rattle.residual_graph.proofs.NodeNumbers.{AllEndsIn, IsNodeOf, is_node_or_not}
@@ -58,20 +56,3 @@ net-none n arcs x v ends none = let both = out_of_none n arcs x v ends none in o
 pub nodes_sum-first : (n : ℕ) (g : ℕ → ℤ) → nodes_sum (suc n) g ≡ g 1 +ℤ nodes_sum n (λ v. g (suc v))
 nodes_sum-first zero g = omega (arith, ints)
 nodes_sum-first (suc n) g = omega (arith, ints, nodes_sum-first n g)
-
-sum_in_nodes : (n : ℕ) (set : List Bool) (f g : ℕ → ℤ) → length set ≡ n → ((v : ℕ) → v < n → g (suc v) ≡ cond (in_set set v) (f v) (pos 0)) → sum_in set f ≡ nodes_sum n g
-sum_in_nodes zero [] f g sized same = refl
-sum_in_nodes zero (b ∷ set) f g sized same = absurd (omega arith)
-sum_in_nodes (suc n) [] f g sized same = absurd (omega arith)
-sum_in_nodes (suc n) (true ∷ set) f g sized same =
-    omega (arith, ints, nodes_sum-first n g, same 0 (omega arith), sum_in_nodes n set (λ v. f (suc v)) (λ v. g (suc v)) (omega arith) (λ v lt. same (suc v) (omega arith)))
-sum_in_nodes (suc n) (false ∷ set) f g sized same =
-    omega (arith, ints, nodes_sum-first n g, same 0 (omega arith), sum_in_nodes n set (λ v. f (suc v)) (λ v. g (suc v)) (omega arith) (λ v lt. same (suc v) (omega arith)))
-
--- the sum over a table of marks is that over the marked nodes
-pub sum_in-marked : (n : ℕ) (set : List Bool) (f : ℕ → ℤ) → length set ≡ suc n → f 0 ≡ pos 0 → sum_in set f ≡ nodes_sum n (λ v. cond (in_set set v) (f v) (pos 0))
-sum_in-marked n [] f sized none = absurd (omega arith)
-sum_in-marked n (true ∷ set) f sized none =
-    omega (arith, ints, none, sum_in_nodes n set (λ v. f (suc v)) (λ v. cond (in_set (true ∷ set) v) (f v) (pos 0)) (omega arith) (λ v lt. refl))
-sum_in-marked n (false ∷ set) f sized none =
-    omega (arith, ints, none, sum_in_nodes n set (λ v. f (suc v)) (λ v. cond (in_set (false ∷ set) v) (f v) (pos 0)) (omega arith) (λ v lt. refl))

@@ -23,8 +23,8 @@ use Rattle.augmentation.specs.ScratchView.{ScratchView}
 use Rattle.tracked.specs.Tracked.{TrackedView}
 use Rattle.tracked.proofs.TrackedLemmas.{IsWritten-same, IsWritten-trans}
 use Rattle.residual_graph.specs.declared.residual.ResidualArc.{ResidualArc}
-use Rattle.augmentation.proofs.TurnedRows.{number_at-neg, left-neg}
 use Rattle.augmentation.proofs.PathLemmas.{IsOnward, hops_tight, path_onward, root_depth}
+use Rattle.augmentation.proofs.CutLemmas.{number_at-neg, left-neg}
 use Rattle.augmentation.proofs.PushLemmas.{AreApart, IsShift-along, IsFlow-along, NoneBelow-along, net-along, at_same, at_other}
 
 pub part_above_0-mono : (a b : ℤ) → (pos 0 <ℤ a → a ≤ℤ b) → part_above_0 a ≤ part_above_0 b

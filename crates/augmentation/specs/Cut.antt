@@ -1,6 +1,6 @@
 -- Sets of nodes whose supply cannot leave, or whose demand cannot be met
 -- (Ahuja, Magnanti, Orlin, "Network Flows": feasibility of flows, cuts).
-use Rattle.std.specs.Prelude.{◌≡◌, ℕ, suc, ◌<◌, ℤ, pos, ◌-ℤ◌, ◌+ℤ◌, ◌≤ℤ◌, neg_ℤ, List, [], ◌∷◌, length, Bool, true, false, if◌then◌else◌, ◌&&◌, ◌↔◌, Any, not, IsTrue}
+use Rattle.std.specs.Prelude.{◌≡◌, ℕ, ◌<◌, ℤ, pos, ◌≤ℤ◌, neg_ℤ, List, length, Bool, true, if◌then◌else◌, ◌↔◌, Any, IsTrue, false}
 use Rattle.dimacs_text.specs.declared.problem.ArcRow.{ArcRow}
 use Rattle.residual_graph.specs.declared.residual.ResidualArc.{ResidualArc}
 use Rattle.residual_graph.specs.declared.residual.Way.{Way}
@@ -15,37 +15,6 @@ use Rattle.residual_graph.specs.Residual.{number_at, row_at, start_of, end_of, I
 use Rattle.residual_graph.specs.Side.{IsRoot}
 use Rattle.tracked.specs.Marks.{in_set}
 use Rattle.tracked.specs.Tracked.{TrackedView}
-
--- the sum of f over the nodes of a set
-abbrev pub sum_in : List Bool → (ℕ → ℤ) → ℤ
-sum_in [] f = pos 0
-sum_in (b ∷ set) f = (if b then f 0 else pos 0) +ℤ sum_in set (λ v. f (suc v))
-
--- the sum of f over the arcs out of a set
-abbrev pub sum_leaving : List Bool → (ArcRow → ℤ) → List ArcRow → ℤ
-sum_leaving set f [] = pos 0
-sum_leaving set f (a ∷ arcs) = (if in_set set a.tail && not (in_set set a.head) then f a else pos 0) +ℤ sum_leaving set f arcs
-
--- the sum of f over the arcs into a set
-abbrev pub sum_entering : List Bool → (ArcRow → ℤ) → List ArcRow → ℤ
-sum_entering set f [] = pos 0
-sum_entering set f (a ∷ arcs) = (if in_set set a.head && not (in_set set a.tail) then f a else pos 0) +ℤ sum_entering set f arcs
-
--- what the supply of a set exceeds all that can leave it by
-abbrev pub surplus : List ArcRow → (ℕ → ℤ) → List Bool → ℤ
-surplus arcs supply set =
-    (sum_in set supply -ℤ sum_leaving set (λ a. a.cap) arcs) +ℤ sum_entering set (λ a. a.low) arcs
-
--- what the demand of a set exceeds all that can enter it by
-abbrev pub shortfall : List ArcRow → (ℕ → ℤ) → List Bool → ℤ
-shortfall arcs supply set =
-    (sum_leaving set (λ a. a.low) arcs -ℤ sum_entering set (λ a. a.cap) arcs) -ℤ sum_in set supply
-
--- d is the greatest value of a set of nodes, and `set` the smallest set that has it
-pub record IsLeastSet (value : List Bool → ℤ) (set : List Bool) (d : ℤ) : Type 0 where
-  pub value_is : value set ≡ d
-  pub greatest : (other : List Bool) → length other ≡ length set → value other ≤ℤ d
-  pub smallest : (other : List Bool) → length other ≡ length set → value other ≡ d → (v : ℕ) → IsTrue (in_set set v) → IsTrue (in_set other v)
 
 -- what a node with this excess has as a root of a side: its excess ahead, its deficit behind
 abbrev pub amount_of : Side → ℤ → ℕ
@@ -156,9 +125,3 @@ pub record IsGrown (side : Side) (arcs : List ArcRow) (x : List ℤ) (old new : 
   pub same_size : length new ≡ length old
   pub kept : (v : ℕ) → in_set old v ≡ true → in_set new v ≡ true
   pub least : (other : List Bool) → IsClosed side arcs x other → ((v : ℕ) → in_set old v ≡ true → in_set other v ≡ true) → (v : ℕ) → in_set new v ≡ true → in_set other v ≡ true
-
--- the set that tells why there is no legal flow: where something lies in excess the smallest set of the greatest surplus, else where something lies in deficit that of the greatest shortfall, else none
-pub record IsChosenSet (arcs : List ArcRow) (supply : ℕ → ℤ) (e : List ℤ) (set : List Bool) : Type 0 where
-  pub in_excess : 0 < left e → IsLeastSet (surplus arcs supply) set (pos (left e))
-  pub in_deficit : left e ≡ 0 → 0 < lack e → IsLeastSet (shortfall arcs supply) set (pos (lack e))
-  pub in_neither : left e ≡ 0 → lack e ≡ 0 → (v : ℕ) → in_set set v ≡ false

@@ -1,13 +1,13 @@
 -- What the end of all searches tells of the instance.
-use Rattle.std.proofs.Common.{◌≡◌, ℕ, All, ◌++◌, replicate, suc, ◌+◌, ◌-◌, ◌*◌, ◌<◌, ◌≤◌, ℤ, pos, neg_ℤ, ◌≤ℤ◌, ◌-ℤ◌, List, [], ◌∷◌, length, drop, None, refl, sym, ap, subst, ◌∙◌, inl, inr, arith, Bool, true, false, cond}
+use Rattle.std.proofs.Common.{◌≡◌, ℕ, All, ◌++◌, replicate, zero, suc, ◌+◌, ◌-◌, ◌*◌, ◌<◌, ◌≤◌, ℤ, pos, neg_ℤ, ◌≤ℤ◌, ◌-ℤ◌, List, [], ◌∷◌, length, drop, None, refl, sym, ap, subst, ◌∙◌, inl, inr, arith, Bool, true, false, cond}
 use Rattle.std.specs.Prelude.{slice_index_or}
 use Rattle.std.specs.Int.{w64}
 use Rattle.std.proofs.lemmas.Int.{ints, int_wrap_fits, fits_signed_from_abs}
-use Rattle.std.proofs.lemmas.Bool.{cases_lt}
+use Rattle.std.proofs.lemmas.Bool.{cases_lt, false≢true, false_from_ne_true}
 use Rattle.std.proofs.lemmas.Grind.{get_or_after_one}
 use Rattle.std.proofs.lemmas.List.Sums.{sum_by-cons}
 use Rattle.dimacs_text.specs.declared.problem.ArcRow.{ArcRow}
-use Rattle.network.specs.Flow.{AllWithinBounds, IsCertifiedFlow, arcs_sum, net, surplus_of, total_cost, IsLeastGreatestSurplus, IsLeastGreatestShortfall}
+use Rattle.network.specs.Flow.{AllEndsAreNodes, AllWithinBounds, IsCertifiedFlow, arcs_sum, cap_into, cap_out, crosses, low_into, low_out, net, nodes_sum, outside, supply_of, surplus_of, total_cost, IsLeastGreatestSurplus, IsLeastGreatestShortfall}
 use Rattle.network.specs.Instance.{Demand, Terminals, Instance, IsLawful, IsLegal, ArcFits, IsCertified, IsBreach, at_node, is_marked, reduced, return_arc_of, reduced_arcs, reduced_flow, numbered_flow, worth}
 use Rattle.std.proofs.lemmas.List.Elements.{All-from_recursion}
 use Rattle.std.specs.List.{AllByRecursion}
@@ -20,10 +20,13 @@ use Rattle.flow_solver.specs.declared.verdict.Verdict.TheVariants.{Best, Infeasi
 use Rattle.augmentation.specs.Limits.{supply_limit}
 use Rattle.shortest_paths.specs.Limits.{label_floor}
 use Rattle.residual_graph.specs.Residual.{IsReducedCostOptimal, ArePotentials, number_at, row_at}
-use Rattle.augmentation.specs.Push.{AreSmall, IsExcess, AreSupplies, part_above_0, left, cap_total}
-use Rattle.augmentation.specs.Cut.{sum_in, sum_leaving, sum_entering, lack, IsChosenSet}
+use Rattle.augmentation.specs.Push.{AreSmall, IsExcess, part_above_0, left, cap_total}
+use Rattle.augmentation.specs.Cut.{lack, IsParted, IsSideOfCut}
+use Rattle.augmentation.proofs.CutLemmas.{lack-none, none_above}
+use Rattle.residual_graph.specs.declared.side.Side.TheVariants.{Ahead, Behind}
 use Rattle.tracked.specs.Marks.{in_set}
 use Rattle.augmentation.specs.Nodes.{held}
+use Rattle.augmentation.proofs.NodeLemmas.{held_node}
 use Rattle.flow_solver.specs.Answer.{IsBestMoment, IsInfeasibleMoment, IsVerdict, IsChosenBreach, IsChosenCut, IsJudged, reduced_worth, IsAnswered}
 use Rattle.flow_solver.specs.Balance.{IsWrappedExcess}
 use Rattle.flow_solver.specs.TablesView.{IsFlowValue}
@@ -31,8 +34,8 @@ use Rattle.flow_solver.specs.Moment.{Moment, IsReturnVerdict, ReturnMatches, Ret
 use Rattle.flow_solver.proofs.BalanceLemmas.{IsExactExcess, excess_exact}
 use Rattle.flow_solver.proofs.ExcessLemmas.{below_part}
 use Rattle.flow_solver.proofs.FlowLaws.{bounds_from, certified_same, certified_flow}
-use Rattle.flow_solver.proofs.CutLaws.{entering_is, leaving_is, least_surplus, least_shortfall}
-use Rattle.flow_solver.proofs.PushLaws.{legal_flow, left_is}
+use Rattle.flow_solver.proofs.ChosenCut.{cut_least, cut_value, value_most}
+use Rattle.flow_solver.proofs.PushLaws.{amount_is, legal_flow, left_is}
 use Rattle.flow_solver.proofs.InstanceLemmas.{caps_of_instance, few_entries, range_of_labels, supplies_of_instance}
 
 -- ---- entries 1 to n of a table
@@ -86,25 +89,50 @@ pub record IsEnd (I : Instance) (y p e : List ℤ) (set : List Bool) : Type 0 wh
   pub cut_in : length set ≡ I.nodes + 1
   pub certified : IsReducedCostOptimal (reduced I).arcs y p
   pub excess_is : IsExcess (reduced I).arcs (held I.nodes (reduced I).supply) y e
-  pub chosen : IsChosenSet (reduced I).arcs (held I.nodes (reduced I).supply) e set
+  pub side : IsSideOfCut (reduced I).arcs y e set
+  pub parted : IsParted (reduced I).arcs y e
 
 module _ (I : Instance) (y p e : List ℤ) (set : List Bool) (end : IsEnd I y p e set) where
   bounds : AllWithinBounds (reduced I).arcs y
   bounds = bounds_from (reduced I).arcs y end.certified.flow.same_length end.certified.flow.within
-
-  sized_set : length set ≡ suc I.nodes
-  sized_set = omega (arith, end.cut_in)
 
   pub end_certified : IsCertifiedFlow (reduced I) y (at_node (drop 1 p))
   end_certified =
       certified_flow (reduced I) y p (at_node (drop 1 p)) (reduced_ends I end.lawful) (agrees_at I.nodes p) end.certified
       (λ v node. range_of_labels (length p) p end.potentials_in v)
 
+  marks : (v : ℕ) → (1 ≤ v) × (v ≤ I.nodes) → is_marked (drop 1 set) v ≡ in_set set v
+  marks = marked_by I.nodes set
+
+  ends : AllEndsAreNodes (reduced I)
+  ends = reduced_ends I end.lawful
+
   cut_of_excess : 0 < left e → IsLeastGreatestSurplus (reduced I) (is_marked (drop 1 set)) (pos (left e))
-  cut_of_excess some = least_surplus (reduced I) set (is_marked (drop 1 set)) (pos (left e)) (reduced_ends I end.lawful) sized_set (marked_by I.nodes set) (end.chosen.in_excess some)
+  cut_of_excess some =
+      let on = end.side.in_excess some in
+      let all = amount_is Ahead (reduced I) y e ends end.excess_is (omega (arith, end.excess_in)) in
+      let none : (v : ℕ) → in_set set v ≡ true → pos 0 ≤ℤ number_at e v = λ v h. end.parted.no_deficit v (on.least end.parted.set end.parted.closed end.parted.holds v h) in
+      record {
+        value = cut_value Ahead (reduced I) y e set (is_marked (drop 1 set)) ends bounds end.excess_is marks on none ∙ sym all;
+        greatest = λ other. (let most = value_most Ahead (reduced I) y other ends bounds in omega (arith, ints, most, all));
+        least = λ other full. cut_least Ahead (reduced I) y e set (is_marked (drop 1 set)) ends bounds end.excess_is marks on none other (full ∙ all);
+      }
 
   cut_of_deficit : left e ≡ 0 → 0 < lack e → IsLeastGreatestShortfall (reduced I) (is_marked (drop 1 set)) (pos (lack e))
-  cut_of_deficit none some = least_shortfall (reduced I) set (is_marked (drop 1 set)) (pos (lack e)) (reduced_ends I end.lawful) sized_set (marked_by I.nodes set) (end.chosen.in_deficit none some)
+  cut_of_deficit nothing some =
+      let on = end.side.no_excess nothing in
+      let all = amount_is Behind (reduced I) y e ends end.excess_is (omega (arith, end.excess_in)) in
+      let none : (v : ℕ) → in_set set v ≡ true → pos 0 ≤ℤ neg_ℤ (number_at e v) = λ v h. omega (arith, ints, none_above e nothing v) in
+      record {
+        value = cut_value Behind (reduced I) y e set (is_marked (drop 1 set)) ends bounds end.excess_is marks on none ∙ sym all;
+        greatest = λ other. (let most = value_most Behind (reduced I) y other ends bounds in omega (arith, ints, most, all));
+        least = λ other full. cut_least Behind (reduced I) y e set (is_marked (drop 1 set)) ends bounds end.excess_is marks on none other (full ∙ all);
+      }
+
+  -- where nothing is out of balance, no node is marked
+  none_in_cut : left e ≡ 0 → lack e ≡ 0 → (v : ℕ) → in_set set v ≡ false
+  none_in_cut none no_lack v =
+      false_from_ne_true (in_set set v) (λ h. false≢true ((end.side.no_excess none).least [] (λ k way residual near. absurd (false≢true near)) (λ q low. absurd (omega (arith, ints, low, lack-none e no_lack q))) v h))
 
   infeasible : (d : ℤ) → IsBreach I (is_marked (drop 1 set)) d → IsInfeasibleMoment I (is_marked (drop 1 set)) d
   infeasible d breach = record { none_legal = breach_rules_out I (is_marked (drop 1 set)) d end.lawful breach; breach = breach }
@@ -123,7 +151,7 @@ module _ (I : Instance) (y p e : List ℤ) (set : List Bool) (end : IsEnd I y p 
         reduced_is = legal.1;
         best = certified_is_best I (numbered_flow I.demand y) (at_node (drop 1 p)) end.lawful legal.0 certified;
         worth_is = worth_is I.nodes I.demand I.arcs I.room y legal.1;
-        none_marked = none_marked set (end.chosen.in_neither none no_lack);
+        none_marked = none_marked set (none_in_cut none no_lack);
       }
 
   -- no set has a surplus where nothing lies in excess
@@ -163,13 +191,13 @@ module _ (I : Instance) (y p e : List ℤ) (set : List Bool) (end : IsEnd I y p 
 
 -- ---- the shortage fits its type
 
-supplies_later : (f : ℕ → ℤ) → AreSupplies f → AreSupplies (λ v. f (suc v))
-supplies_later f small = record { low = λ v. small.low (suc v); high = λ v. small.high (suc v) }
-
-sum_in-within : (set : List Bool) (f : ℕ → ℤ) → AreSupplies f → (neg_ℤ (pos (supply_limit * length set)) ≤ℤ sum_in set f) × (sum_in set f ≤ℤ pos (supply_limit * length set))
-sum_in-within [] f small = (omega (arith, ints), omega (arith, ints))
-sum_in-within (true ∷ set) f small = (let rest = sum_in-within set (λ v. f (suc v)) (supplies_later f small) in (omega (arith, ints, small.low 0), omega (arith, ints, small.high 0)))
-sum_in-within (false ∷ set) f small = (let rest = sum_in-within set (λ v. f (suc v)) (supplies_later f small) in (omega (arith, ints), omega (arith, ints)))
+supply_within : (n : ℕ) (set : ℕ → Bool) (f : ℕ → ℤ) → ((v : ℕ) → (1 ≤ v) × (v ≤ n) → (neg_ℤ (pos supply_limit) ≤ℤ f v) × (f v ≤ℤ pos supply_limit))
+    → (neg_ℤ (pos (supply_limit * n)) ≤ℤ nodes_sum n (λ v. cond (set v) (f v) (pos 0))) × (nodes_sum n (λ v. cond (set v) (f v) (pos 0)) ≤ℤ pos (supply_limit * n))
+supply_within zero set f small = (omega (arith, ints), omega (arith, ints))
+supply_within (suc n) set f small =
+    let rest = supply_within n set f (λ v node. small v (node.0, omega (arith, node.1))) in
+    let last = small (suc n) (omega arith, omega arith) in
+    (grind (arith, ints), grind (arith, ints))
 
 abbrev AreRows : List ArcRow → Type 0
 AreRows arcs = (k : ℕ) → k < length arcs → (pos 0 ≤ℤ (row_at arcs k).low) × ((row_at arcs k).low ≤ℤ (row_at arcs k).cap)
@@ -185,25 +213,31 @@ picked_between picks (a ∷ arcs) rows =
     let here = part_between (picks a) a.low a.cap (rows 0 (omega arith)).0 (rows 0 (omega arith)).1 in
     (omega (arith, ints, rest.0, here.0), omega (arith, ints, rest.1, here.1, sum_by-cons (λ (b : ArcRow). part_above_0 b.cap) a arcs))
 
-leaving_between : (set : List Bool) (arcs : List ArcRow) → AreRows arcs → (pos 0 ≤ℤ sum_leaving set (λ a. a.cap) arcs) × (sum_leaving set (λ a. a.low) arcs ≤ℤ pos (cap_total arcs))
-leaving_between set arcs rows = rw (leaving_is set (λ a. a.cap) arcs, leaving_is set (λ a. a.low) arcs) (picked_between _ arcs rows)
-
-entering_between : (set : List Bool) (arcs : List ArcRow) → AreRows arcs → (pos 0 ≤ℤ sum_entering set (λ a. a.cap) arcs) × (sum_entering set (λ a. a.low) arcs ≤ℤ pos (cap_total arcs))
-entering_between set arcs rows = rw (entering_is set (λ a. a.cap) arcs, entering_is set (λ a. a.low) arcs) (picked_between _ arcs rows)
-
 module _ (I : Instance) (y p e : List ℤ) (set : List Bool) (end : IsEnd I y p e set) where
+  abbrev cut : ℕ → Bool
+  cut = is_marked (drop 1 set)
+
   rows_end : AreRows (reduced I).arcs
   rows_end k lt = (let row = end.certified.flow.rows k lt in (row.low_at_least_0, row.low_at_most_cap))
 
+  supply_small : (neg_ℤ (pos (supply_limit * I.nodes)) ≤ℤ supply_of (reduced I) cut) × (supply_of (reduced I) cut ≤ℤ pos (supply_limit * I.nodes))
+  supply_small = supply_within I.nodes cut (reduced I).supply (λ v node. (let all = supplies_of_instance I end.lawful in let is = held_node I.nodes (reduced I).supply v node in (omega (arith, ints, all.low v, is), omega (arith, ints, all.high v, is))))
+
+  most_out : (pos 0 ≤ℤ cap_out (reduced I) cut) × (low_out (reduced I) cut ≤ℤ pos (cap_total (reduced I).arcs))
+  most_out = picked_between (crosses cut (outside cut)) (reduced I).arcs rows_end
+
+  most_into : (pos 0 ≤ℤ cap_into (reduced I) cut) × (low_into (reduced I) cut ≤ℤ pos (cap_total (reduced I).arcs))
+  most_into = picked_between (crosses (outside cut) cut) (reduced I).arcs rows_end
+
   pub left_fits : left e < 9223372036854775808
   left_fits = elim (cases_lt 0 (left e)) [
-    | inl some ↦ omega (arith, ints, (end.chosen.in_excess some).value_is, (sum_in-within set _ (supplies_of_instance I end.lawful)).1, (leaving_between set _ rows_end).0, (entering_between set _ rows_end).1, caps_of_instance I end.lawful, few_entries I end.lawful, end.cut_in)
+    | inl some ↦ omega (arith, ints, (cut_of_excess I y p e set end some).value, supply_small.1, most_out.0, most_into.1, caps_of_instance I end.lawful, few_entries I end.lawful)
     | inr le ↦ omega arith
   ]
 
   pub lack_fits : left e ≡ 0 → lack e < 9223372036854775808
   lack_fits none = elim (cases_lt 0 (lack e)) [
-    | inl some ↦ omega (arith, ints, (end.chosen.in_deficit none some).value_is, (sum_in-within set _ (supplies_of_instance I end.lawful)).0, (leaving_between set _ rows_end).1, (entering_between set _ rows_end).0, caps_of_instance I end.lawful, few_entries I end.lawful, end.cut_in)
+    | inl some ↦ omega (arith, ints, (cut_of_deficit I y p e set end none some).value, supply_small.0, most_out.1, most_into.0, caps_of_instance I end.lawful, few_entries I end.lawful)
     | inr le ↦ omega arith
   ]
 

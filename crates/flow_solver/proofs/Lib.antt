@@ -1,6 +1,6 @@
 pub mod ExcessLemmas
 pub mod FlowLaws
-pub mod CutLaws
+pub mod ChosenCut
 pub mod PushLaws
 pub mod InstanceLemmas
 pub mod AnswerLemmas

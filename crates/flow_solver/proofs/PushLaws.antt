@@ -1,13 +1,15 @@
 -- Pushes, excesses and what is left, in the words of minimum-cost flows.
-use Rattle.std.proofs.Common.{◌≡◌, ℕ, zero, suc, ◌<◌, ℤ, pos, negsuc, ◌-ℤ◌, List, [], ◌∷◌, length, refl, sym, ap, inl, inr, arith}
+use Rattle.std.proofs.Common.{◌≡◌, ℕ, zero, suc, ◌<◌, ℤ, pos, negsuc, neg_ℤ, ◌+ℤ◌, ◌-ℤ◌, List, [], ◌∷◌, length, refl, sym, ap, inl, inr, arith}
 use Rattle.std.proofs.lemmas.Int.{ints}
 use Rattle.std.proofs.lemmas.List.Sums.{sum_by-cons}
 use Rattle.dimacs_text.specs.declared.problem.ArcRow.{ArcRow}
 use Rattle.network.specs.Flow.{MinCost, IsNode, AllEndsAreNodes, IsLegalFlow, AllWithinBounds, nodes_sum, net, excess, total_excess}
 use Rattle.network.specs.Flow as flow
 use Rattle.residual_graph.specs.Residual.{number_at}
+use Rattle.residual_graph.specs.declared.side.Side.{Side}
+use Rattle.residual_graph.specs.declared.side.Side.TheVariants.{Ahead, Behind}
 use Rattle.augmentation.specs.Push.{IsExcess, IsPush, Pushes, part_above_0, left}
-use Rattle.augmentation.specs.Cut.{lack}
+use Rattle.augmentation.specs.Cut.{amount, lack}
 use Rattle.augmentation.specs.Nodes.{held}
 use Rattle.augmentation.proofs.CutLemmas.{none_above, lack-none}
 use Rattle.residual_graph.proofs.NodeNumbers.{AllEndsIn, is_node_or_not}
@@ -36,7 +38,7 @@ module _ (n : ℕ) (arcs : List ArcRow) (supply : ℕ → ℤ) (ends : AllEndsIn
 -- ---- excesses
 
 module _ (I : MinCost) (x e : List ℤ) (is : IsExcess I.arcs (held I.nodes I.supply) x e) where
-  excess_at : (v : ℕ) → IsNode I v → number_at e v ≡ excess I x v
+  pub excess_at : (v : ℕ) → IsNode I v → number_at e v ≡ excess I x v
   excess_at v node = omega (arith, ints, is v, held_node I.nodes I.supply v node)
 
   pub legal_flow : AllWithinBounds I.arcs x → left e ≡ 0 → lack e ≡ 0 → IsLegalFlow I x
@@ -45,20 +47,39 @@ module _ (I : MinCost) (x e : List ℤ) (is : IsExcess I.arcs (held I.nodes I.su
     conserved = λ v node. omega (arith, ints, excess_at v node, none_above e none v, lack-none e no_lack v);
   }
 
-part_is : (z : ℤ) → pos (part_above_0 z) ≡ flow.positive_part z
-part_is (pos n) = refl
-part_is (negsuc n) = refl
+-- excess as it is seen ahead, deficit as it is seen behind
+abbrev pub seen : Side → ℤ → ℤ
+seen Ahead z = z
+seen Behind z = neg_ℤ z
 
-left_nodes : (n : ℕ) (e : List ℤ) (g : ℕ → ℤ) → length e ≡ n → ((v : ℕ) → v < n → g (suc v) ≡ flow.positive_part (number_at e v)) → pos (left e) ≡ nodes_sum n g
-left_nodes zero [] g sized same = refl
-left_nodes (suc n) (z ∷ e) g sized same =
-    omega (arith, ints, nodes_sum-first n g, same 0 (omega arith), part_is z, sum_by-cons part_above_0 z e, left_nodes n e (λ v. g (suc v)) (omega arith) (λ v lt. same (suc v) (omega arith)))
-left_nodes _ _ g sized same = absurd (omega arith)
+amount_cons : (side : Side) (z : ℤ) (e : List ℤ) → pos (amount side (z ∷ e)) ≡ flow.positive_part (seen side z) +ℤ pos (amount side e)
+amount_cons Ahead (pos n) e = omega (arith, ints, sum_by-cons part_above_0 (pos n) e)
+amount_cons Ahead (negsuc n) e = omega (arith, ints, sum_by-cons part_above_0 (negsuc n) e)
+amount_cons Behind z e = omega (arith, ints, part_is (neg_ℤ z), sum_by-cons (λ (y : ℤ). part_above_0 (neg_ℤ y)) z e)
+  where
+    part_is : (z : ℤ) → pos (part_above_0 z) ≡ flow.positive_part z
+    part_is (pos n) = refl
+    part_is (negsuc n) = refl
+
+amount_nodes : (side : Side) (n : ℕ) (e : List ℤ) (g : ℕ → ℤ) → length e ≡ n → ((v : ℕ) → v < n → g (suc v) ≡ flow.positive_part (seen side (number_at e v))) → pos (amount side e) ≡ nodes_sum n g
+amount_nodes Ahead zero [] g sized same = refl
+amount_nodes Behind zero [] g sized same = refl
+amount_nodes side (suc n) (z ∷ e) g sized same =
+    omega (arith, ints, nodes_sum-first n g, same 0 (omega arith), amount_cons side z e, amount_nodes side n e (λ v. g (suc v)) (omega arith) (λ v lt. same (suc v) (omega arith)))
+amount_nodes side _ _ g sized same = absurd (omega arith)
+
+idle : (side : Side) (z : ℤ) → z ≡ pos 0 → flow.positive_part (seen side z) ≡ pos 0
+idle Ahead z none = ap flow.positive_part none
+idle Behind z none = ap (λ (y : ℤ). flow.positive_part (neg_ℤ y)) none
+
+-- what lies at the roots of a side, in the words of a flow
+pub amount_is : (side : Side) (I : MinCost) (x e : List ℤ) → AllEndsAreNodes I → IsExcess I.arcs (held I.nodes I.supply) x e → length e ≡ suc I.nodes → pos (amount side e) ≡ nodes_sum I.nodes (λ v. flow.positive_part (seen side (excess I x v)))
+amount_is side I x [] ends is sized = absurd (omega arith)
+amount_is side I x (z ∷ e) ends is sized =
+    let first : z ≡ pos 0 = omega (arith, ints, is 0, net-none I.nodes I.arcs x 0 ends (λ h. omega (arith, h.0))) in
+    let none = amount_cons side z e in
+    let rest = amount_nodes side I.nodes e (λ v. flow.positive_part (seen side (excess I x v))) (omega arith) (λ v lt. ap (λ (y : ℤ). flow.positive_part (seen side y)) (sym (excess_at I x (z ∷ e) is (suc v) (omega arith, omega arith)))) in
+    omega (arith, ints, none, idle side z first, rest)
 
 pub left_is : (I : MinCost) (x e : List ℤ) → AllEndsAreNodes I → IsExcess I.arcs (held I.nodes I.supply) x e → length e ≡ suc I.nodes → pos (left e) ≡ total_excess I x
-left_is I x [] ends is sized = absurd (omega arith)
-left_is I x (z ∷ e) ends is sized =
-    let first : z ≡ pos 0 = omega (arith, ints, is 0, net-none I.nodes I.arcs x 0 ends (λ h. omega (arith, h.0))) in
-    let none : part_above_0 z ≡ 0 = ap part_above_0 first in
-    let rest = left_nodes I.nodes e (λ v. flow.positive_part (excess I x v)) (omega arith) (λ v lt. ap flow.positive_part (sym (excess_at I x (z ∷ e) is (suc v) (omega arith, omega arith)))) in
-    omega (arith, ints, none, rest, sum_by-cons part_above_0 z e)
+left_is = amount_is Ahead

@@ -2,12 +2,12 @@
 
 ghost use Rattle.std.specs.Prelude.{◌≡◌, ℕ, ℤ, IsTrue, length};
 ghost use Rattle.augmentation.specs.Pseudoflow.{IsReady};
-ghost use Rattle.augmentation.specs.Push.{ArePushes, IsExcess};
+ghost use Rattle.augmentation.specs.Push.{ArePushes};
 ghost use Rattle.tracked.specs.Tracked.{IsWritten};
 ghost use Rattle.flow_solver.specs.Potentials.{AreAsTold, AreGreatestIn, KeepStep};
 ghost use Rattle.residual_graph.specs.Graph.{HasEntries};
 ghost use Rattle.residual_graph.specs.Residual.{IsPseudoflow};
-ghost use Rattle.augmentation.specs.Cut.{IsChosenSet, IsParted, AreOnSide, IsSideOfCut};
+ghost use Rattle.augmentation.specs.Cut.{IsParted, AreOnSide, IsSideOfCut};
 ghost use Rattle.augmentation.specs.Held.{IsHeldIn};
 ghost use Rattle.residual_graph.specs.Walk.{AreRowsOf};
 ghost use Rattle.residual_graph.specs.declared.side.Side.TheVariants.{Ahead};
@@ -147,8 +147,8 @@ pub fn settle(
     ensures scratch_in { length scratch.new.potentials ≡ length excess.new }
     ensures held { IsHeldIn graph.now.rows flow.new.whole scratch.new.held }
     ensures step { KeepStep potentials.new scratch.new }
-    ensures cut { (supply : ℕ → ℤ) → IsExcess graph.now.rows supply flow.old.entries excess.old
-        → IsChosenSet graph.now.rows supply excess.new cut.new.entries }
+    ensures parted { IsParted graph.now.rows flow.new.entries excess.new }
+    ensures cut { IsSideOfCut graph.now.rows flow.new.entries excess.new cut.new.entries }
 {
     let pushed = push_and_raise(graph, flow, potentials, excess, scratch);
     mark_cut(graph, flow, excess, scratch, pushed.are_marked, cut);

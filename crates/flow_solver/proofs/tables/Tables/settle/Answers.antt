@@ -57,7 +57,8 @@ end c =
       cut_in = c.settle-pushes.ensures.cut_written.same_length ∙ c.self.invariant.cut_in.entries_in;
       certified = rw same at c.settle-pushes.ensures.ready.state.certified;
       excess_is = rw same at (c.settle-pushes.ensures.pushed.excess supply (excess_before c));
-      chosen = rw same at (c.settle-pushes.ensures.cut supply (excess_before c));
+      side = rw same at c.settle-pushes.ensures.cut;
+      parted = rw same at c.settle-pushes.ensures.parted;
     }
 
 pub judge-self-inside-requires-clause-bounds : goal.judge-self-inside-requires-clause-bounds
