@@ -17,6 +17,5 @@ pub mod Exchange
 pub mod Certificate
 pub mod Held
 pub mod Near
-pub mod Wanted
 pub mod Attempt
 pub mod Adoption

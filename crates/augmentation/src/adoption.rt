@@ -1,52 +1,29 @@
 //! Proposals that are taken where they are certified, and pushes from there.
 
-ghost use Rattle.std.specs.Prelude.{◌≡◌, ℕ, ℤ, ◌<◌, List, length, IfNone, IfSome, false, true};
+ghost use Rattle.std.specs.Prelude.{◌≡◌, ℕ, ℤ, ◌<◌, List, length, IfNone, IfSome, true};
 ghost use Rattle.residual_graph.specs.Residual.{IsPseudoflow};
 ghost use Rattle.tracked.specs.Journal.{IsSince};
 ghost use Rattle.tracked.specs.Marks.{in_set};
 ghost use Rattle.tracked.specs.Tracked.{IsWritten};
-ghost use Rattle.augmentation.specs.Adoption.{IsAdopted};
+ghost use Rattle.augmentation.specs.Adoption.{IsCertifiedBy, IsRaisedBy, IsRaisedOrAsBefore};
 ghost use Rattle.augmentation.specs.Attempt.{IsAttemptFor};
-ghost use Rattle.augmentation.specs.Cut.{IsParted, TellsMarks};
+ghost use Rattle.augmentation.specs.Cut.{IsParted};
 ghost use Rattle.augmentation.specs.Exchange.{AreLed, IsBefore, IsJournalFor};
 ghost use Rattle.augmentation.specs.Held.{IsHeldIn};
-ghost use Rattle.augmentation.specs.Pseudoflow.{IsCertifiedIn, IsReadyIn};
-ghost use Rattle.augmentation.specs.Push.{ArePushesOf, AreSmall};
-ghost use Rattle.augmentation.specs.Settle.{TellsGreatest};
+ghost use Rattle.augmentation.specs.Near.{AreInStep};
+ghost use Rattle.augmentation.specs.Pseudoflow.{IsReady};
+ghost use Rattle.augmentation.specs.Push.{AreSmall};
 
 use crate::attempt::Attempt;
 use crate::draft::Draft;
 use crate::excess::{Excess, note_unbalanced};
 use crate::exchange::exchange;
-use crate::potentials::certify;
+use crate::near::{Apart, note_apart, raise, write_labels, write_raised};
+use crate::potentials::is_renewed;
 use crate::rounds::finish;
 use crate::scratch::Scratch;
 use residual_graph::Graph;
 use tracked::{Journal, Touched, Tracked};
-
-/// What pushes came to.
-#[derive(Clone, Copy)]
-pub struct Pushed {
-    /// How many were made.
-    pub count: u64,
-    /// Whether the potentials of the scratch are known to be the greatest that certify the flow.
-    pub are_greatest: bool,
-    /// Whether the marks of the scratch are known to be those of the nodes in excess, and of all that they reach.
-    pub are_marked: bool,
-}
-
-impl Pushed {
-    /// So many pushes, after which nothing more is known.
-    pub fn counted(count: u64) -> Pushed
-        ensures { result ≡ record { count = count; are_greatest = false; are_marked = false } }
-    {
-        Pushed {
-            count,
-            are_greatest: false,
-            are_marked: false,
-        }
-    }
-}
 
 /// Notes the places in a journal.
 #[inline(never)] // a name of its own in the program: `bench/count` counts its calls
@@ -121,139 +98,164 @@ pub(crate) fn take_back(flow: &mut Tracked<i64>, excess: &mut Excess, draft: &Dr
     );
 }
 
-/// Takes what the proposal at hand leads to where potentials certify that, and counts the pushes that lead there; else leaves
-/// all as it was.
+/// Takes what the proposal at hand leads to where the tree of labels certifies that, and counts the pushes that lead
+/// there; the potentials become the greatest that certify the flow. Else all is as it was.
 pub fn adopt(
     graph: &Graph,
     flow: &mut Tracked<i64>,
     excess: &mut Excess,
+    potentials: &mut Tracked<i64>,
+    apart: &mut Apart,
     scratch: &mut Scratch,
-) -> Option<Pushed>
-    requires ready { IsReadyIn graph.now flow.old excess.old scratch.old }
+) -> Option<u64>
+    requires ready { IsReady graph.now flow.old.entries potentials.old.entries excess.old }
+    requires scratch_in { length scratch.old.potentials ≡ length potentials.old.entries }
     requires held { IsHeldIn graph.now.rows flow.old.whole scratch.old.held }
+    requires step { AreInStep apart.old scratch.old.held.labels potentials.old.entries }
     ensures flow_written { IsWritten flow.old flow.new }
-    ensures same_flow { IfNone result (flow.new ≡ flow.old) }
-    ensures same_excess { IfNone result (excess.new ≡ excess.old) }
-    ensures same_potentials { IfNone result (scratch.new.potentials ≡ scratch.old.potentials) }
-    ensures adopted { IfSome result
-        (IsAdopted graph.now flow.old flow.new excess.old excess.new scratch.new) }
+    ensures potentials_written { IsWritten potentials.old potentials.new }
+    ensures adopted { IsRaisedOrAsBefore graph.now result
+        flow.old flow.new excess.old excess.new potentials.old potentials.new }
+    ensures scratch_in { length scratch.new.potentials ≡ length scratch.old.potentials }
     ensures held { IsHeldIn graph.now.rows flow.new.whole scratch.new.held }
+    ensures step { AreInStep apart.new scratch.new.held.labels potentials.new.entries }
 {
     let attempt = &mut scratch.attempt;
     let count = lead(graph, flow, excess, attempt)?;
-    let Some(are_greatest) = certify(
-        graph,
-        flow,
-        &mut attempt.wanted.potentials,
-        &mut scratch.potentials,
-        attempt.proposals.ends(),
-        &mut scratch.tree,
-    ) else {
+    let tree = &mut scratch.tree;
+    let proposals = &attempt.proposals;
+    tree.lower(proposals.greatest());
+    if !is_renewed(graph, flow, proposals.potentials(), proposals.ends(), tree) {
         take_back(flow, excess, &attempt.draft);
         return None;
-    };
+    }
     attempt.proposals.adopted();
-    Some(Pushed {
-        count,
-        are_greatest,
-        are_marked: false,
-    })
+    write_labels(potentials, apart, tree, &mut attempt.proposals);
+    tree.accept(graph, flow.places());
+    Some(count)
 }
 
-/// Takes the proposal at hand where it is certified, and counts the pushes that lead there; else there are none.
-fn take_proposed(
+/// Pushes as a proposal has it, and counts the pushes: the first time, and then where there are nodes in excess and
+/// nodes in deficit. The potentials become the greatest that certify the flow. None where the tree of labels does not
+/// find these, and then all is as it was.
+pub fn push_proposed(
     graph: &Graph,
     flow: &mut Tracked<i64>,
     excess: &mut Excess,
+    potentials: &mut Tracked<i64>,
+    apart: &mut Apart,
     scratch: &mut Scratch,
-) -> Pushed
-    requires ready { IsReadyIn graph.now flow.old excess.old scratch.old }
+) -> Option<u64>
+    requires ready { IsReady graph.now flow.old.entries potentials.old.entries excess.old }
+    requires scratch_in { length scratch.old.potentials ≡ length potentials.old.entries }
     requires held { IsHeldIn graph.now.rows flow.old.whole scratch.old.held }
+    requires step { AreInStep apart.old scratch.old.held.labels potentials.old.entries }
     ensures flow_written { IsWritten flow.old flow.new }
-    ensures taken { IsAdopted graph.now flow.old flow.new excess.old excess.new scratch.new result }
+    ensures potentials_written { IsWritten potentials.old potentials.new }
+    ensures pushed { IsRaisedOrAsBefore graph.now result
+        flow.old flow.new excess.old excess.new potentials.old potentials.new }
+    ensures scratch_in { length scratch.new.potentials ≡ length scratch.old.potentials }
     ensures held { IsHeldIn graph.now.rows flow.new.whole scratch.new.held }
+    ensures step { AreInStep apart.new scratch.new.held.labels potentials.new.entries }
 {
-    match adopt(graph, flow, excess, scratch) {
-        Some(pushed) => pushed,
-        None => Pushed::counted(0),
+    if scratch.attempt.proposals.is_fresh() || excess.has_both() {
+        note_apart(&mut scratch.attempt.proposals, apart);
+        scratch.propose(graph, flow.entries(), excess, potentials.entries());
+        return adopt(graph, flow, excess, potentials, apart, scratch);
+    }
+    if raise(graph, flow, potentials, apart, scratch) {
+        Some(0)
+    } else {
+        None
     }
 }
 
-/// Pushes as a proposal has it: the first time, and then where there are nodes in excess and nodes in deficit.
-fn push_proposed(
-    graph: &Graph,
-    flow: &mut Tracked<i64>,
-    excess: &mut Excess,
-    scratch: &mut Scratch,
-) -> Pushed
-    requires ready { IsReadyIn graph.now flow.old excess.old scratch.old }
-    requires held { IsHeldIn graph.now.rows flow.old.whole scratch.old.held }
-    ensures flow_written { IsWritten flow.old flow.new }
-    ensures taken { IsAdopted graph.now flow.old flow.new excess.old excess.new scratch.new result }
-    ensures held { IsHeldIn graph.now.rows flow.new.whole scratch.new.held }
-{
-    if !scratch.attempt.proposals.is_fresh() && !excess.has_both() {
-        return Pushed::counted(0);
-    }
-    scratch.propose(graph, flow.entries(), excess.entries());
-    take_proposed(graph, flow, excess, scratch)
-}
-
-/// Pushes as proposals from afar have it, and then until no node in excess reaches a node in deficit; counts the pushes.
+/// Pushes as a proposal from afar has it, and counts the pushes; none where it is not adopted.
 fn push_from_afar(
     graph: &Graph,
     flow: &mut Tracked<i64>,
     excess: &mut Excess,
+    potentials: &mut Tracked<i64>,
+    apart: &mut Apart,
     scratch: &mut Scratch,
 ) -> u64
-    requires ready { IsReadyIn graph.now flow.old excess.old scratch.old }
+    requires ready { IsReady graph.now flow.old.entries potentials.old.entries excess.old }
+    requires scratch_in { length scratch.old.potentials ≡ length potentials.old.entries }
     requires held { IsHeldIn graph.now.rows flow.old.whole scratch.old.held }
+    requires step { AreInStep apart.old scratch.old.held.labels potentials.old.entries }
     ensures flow_written { IsWritten flow.old flow.new }
-    ensures state { IsCertifiedIn graph.now flow.new excess.new scratch.new }
-    ensures pushed { ArePushesOf graph.now result flow.old excess.old flow.new excess.new }
-    ensures parted { IsParted graph.now.rows flow.new.entries excess.new }
+    ensures potentials_written { IsWritten potentials.old potentials.new }
+    ensures pushed { IsCertifiedBy graph.now result
+        flow.old.entries excess.old flow.new.entries excess.new potentials.new.entries }
+    ensures scratch_in { length scratch.new.potentials ≡ length scratch.old.potentials }
     ensures held { IsHeldIn graph.now.rows flow.new.whole scratch.new.held }
+    ensures step { AreInStep apart.new scratch.new.held.labels potentials.new.entries }
 {
-    scratch.propose_from_afar(graph, flow.entries(), excess.entries());
-    let pushed = take_proposed(graph, flow, excess, scratch);
-    let more = finish(graph, flow, excess, scratch);
-    if more > 0 {
-        scratch.attempt.proposals.forget_arcs();
+    let attempt = &mut scratch.attempt;
+    attempt.propose_from_afar(graph, flow.entries(), excess, potentials.entries());
+    match adopt(graph, flow, excess, potentials, apart, scratch) {
+        Some(count) => count,
+        None => 0,
     }
-    pushed.count + more
 }
 
-/// Pushes flow until no node in excess reaches a node in deficit, and counts the pushes. The first time, and then where
-/// there are nodes in excess and nodes in deficit, a proposal is made and tried; if it left something to push, another
-/// one from afar, which looks at all nodes.
+/// Searches and pushes until no node in excess reaches a node in deficit, and counts the pushes; the potentials become
+/// the greatest that certify the flow.
+fn push_rest(
+    graph: &Graph,
+    flow: &mut Tracked<i64>,
+    excess: &mut Excess,
+    potentials: &mut Tracked<i64>,
+    apart: &mut Apart,
+    scratch: &mut Scratch,
+) -> u64
+    requires ready { IsReady graph.now flow.old.entries potentials.old.entries excess.old }
+    requires scratch_in { length scratch.old.potentials ≡ length potentials.old.entries }
+    requires held { IsHeldIn graph.now.rows flow.old.whole scratch.old.held }
+    requires step { AreInStep apart.old scratch.old.held.labels potentials.old.entries }
+    ensures flow_written { IsWritten flow.old flow.new }
+    ensures potentials_written { IsWritten potentials.old potentials.new }
+    ensures pushed { IsRaisedBy graph.now result
+        flow.old.entries excess.old flow.new.entries excess.new potentials.new.entries }
+    ensures parted { IsParted graph.now.rows flow.new.entries excess.new }
+    ensures scratch_in { length scratch.new.potentials ≡ length scratch.old.potentials }
+    ensures held { IsHeldIn graph.now.rows flow.new.whole scratch.new.held }
+    ensures step { AreInStep apart.new scratch.new.held.labels potentials.new.entries }
+{
+    scratch.take_potentials(potentials.entries());
+    let count = finish(graph, flow, excess, scratch);
+    if count > 0 {
+        scratch.attempt.proposals.forget_arcs();
+    }
+    write_raised(graph, flow, potentials, apart, scratch);
+    count
+}
+
+/// Pushes flow until no node in excess reaches a node in deficit, and counts the pushes: as a proposal from afar has
+/// it, which looks at all nodes, and then by searches. The potentials become the greatest that certify the flow.
+#[inline(never)] // a name of its own in the program: `bench/count` counts its calls
 pub fn push_all(
     graph: &Graph,
     flow: &mut Tracked<i64>,
     excess: &mut Excess,
+    potentials: &mut Tracked<i64>,
+    apart: &mut Apart,
     scratch: &mut Scratch,
-) -> Pushed
-    requires ready { IsReadyIn graph.now flow.old excess.old scratch.old }
+) -> u64
+    requires ready { IsReady graph.now flow.old.entries potentials.old.entries excess.old }
+    requires scratch_in { length scratch.old.potentials ≡ length potentials.old.entries }
     requires held { IsHeldIn graph.now.rows flow.old.whole scratch.old.held }
+    requires step { AreInStep apart.old scratch.old.held.labels potentials.old.entries }
     ensures flow_written { IsWritten flow.old flow.new }
-    ensures state { IsCertifiedIn graph.now flow.new excess.new scratch.new }
-    ensures pushed { ArePushesOf graph.now result.count flow.old excess.old flow.new excess.new }
+    ensures potentials_written { IsWritten potentials.old potentials.new }
+    ensures pushed { IsRaisedBy graph.now result
+        flow.old.entries excess.old flow.new.entries excess.new potentials.new.entries }
     ensures parted { IsParted graph.now.rows flow.new.entries excess.new }
-    ensures greatest { TellsGreatest result.are_greatest graph.now flow.new scratch.new.potentials }
-    ensures marked { TellsMarks result.are_marked graph.now flow.new excess.new scratch.new }
+    ensures scratch_in { length scratch.new.potentials ≡ length scratch.old.potentials }
     ensures held { IsHeldIn graph.now.rows flow.new.whole scratch.new.held }
+    ensures step { AreInStep apart.new scratch.new.held.labels potentials.new.entries }
 {
-    let pushed = push_proposed(graph, flow, excess, scratch);
-    // After a cold solve the list still holds all nodes that had a supply.
-    excess.tidy();
-    if !excess.has_both() {
-        return pushed;
-    }
-    if scratch.is_parted(graph, flow.entries(), excess) {
-        return Pushed {
-            are_marked: true,
-            ..pushed
-        };
-    }
-    let more = push_from_afar(graph, flow, excess, scratch);
-    Pushed::counted(pushed.count + more)
+    let count = push_from_afar(graph, flow, excess, potentials, apart, scratch);
+    let more = push_rest(graph, flow, excess, potentials, apart, scratch);
+    count + more
 }

@@ -35,7 +35,7 @@ impl Attempt {
     {
         let arcs = arcs.min(MOST_ARCS);
         let proposals = Proposals::new(alloc, entries, arcs);
-        let wanted = Wanted::new(alloc, entries, arcs);
+        let wanted = Wanted::new(alloc, arcs);
         let draft = Draft::new(alloc, entries, arcs);
         let (proposals, (wanted, draft)) = both(proposals, both(wanted, draft))?;
         Ok(Attempt {
@@ -51,7 +51,7 @@ impl Attempt {
         &mut self,
         graph: &Graph,
         flow: &[i64],
-        excess: &[i64],
+        excess: &Excess,
         potentials: &[i64],
     )
         requires tables { IsAttemptFor (length potentials.now) self.old }
@@ -62,30 +62,8 @@ impl Attempt {
     {
         if self.proposals.is_fresh() {
             self.propose_from_afar(graph, flow, excess, potentials);
-        } else {
-            self.proposals.forget_nodes();
-            self.proposals
-                .catch_up(graph.rows(), flow, &self.wanted.changes);
-            let aim = aim_of(graph);
-            self.proposals
-                .propose_near(graph.rows(), flow, excess, potentials, &[], aim);
-            self.proposals.write(graph.rows(), flow, &mut self.wanted);
+            return;
         }
-    }
-
-    /// Proposes where to lead a flow and its excess near the nodes out of balance, and writes down the changes of the flow alone.
-    pub(crate) fn propose_near(
-        &mut self,
-        graph: &Graph,
-        flow: &[i64],
-        excess: &Excess,
-        potentials: &[i64],
-    )
-        requires tables { IsAttemptFor (length potentials.now) self.old }
-        requires flow { IsPseudoflow (length potentials.now) graph.now.rows flow.now }
-        requires excess { length excess.now ≡ length potentials.now }
-        ensures { IsAttemptFor (length potentials.now) self.new }
-    {
         self.proposals
             .catch_up(graph.rows(), flow, &self.wanted.changes);
         self.proposals.propose_near(
@@ -96,8 +74,7 @@ impl Attempt {
             excess.unbalanced.places(),
             aim_of(graph),
         );
-        self.proposals
-            .write_changes(graph.rows(), flow, &mut self.wanted);
+        self.proposals.write(graph.rows(), flow, &mut self.wanted);
     }
 
     /// Brings the ends in step with a flow that was led to what is wanted.
@@ -152,7 +129,7 @@ impl Attempt {
         &mut self,
         graph: &Graph,
         flow: &[i64],
-        excess: &[i64],
+        excess: &Excess,
         potentials: &[i64],
     )
         requires tables { IsAttemptFor (length potentials.now) self.old }
@@ -163,7 +140,7 @@ impl Attempt {
     {
         let aim = aim_of(graph);
         self.proposals
-            .propose(graph.rows(), flow, excess, potentials, aim);
+            .propose(graph.rows(), flow, excess.entries(), potentials, aim);
         self.proposals.write(graph.rows(), flow, &mut self.wanted);
     }
 }

@@ -23,16 +23,14 @@ mod rounds;
 mod scratch;
 mod side;
 mod trails;
-mod wanted;
 
-pub use adoption::{Pushed, adopt, push_all};
+pub use adoption::{adopt, push_all, push_proposed};
 pub use attempt::Attempt;
 pub use certificate::{certifies, is_within};
 pub use cut::{Cut, mark_cut};
 pub use draft::Draft;
 pub use excess::Excess;
-pub use near::{Apart, prepare, push_near};
+pub use near::{Apart, prepare};
 pub use order::Order;
-pub use potentials::write_potentials;
 pub use rounds::finish;
 pub use scratch::Scratch;

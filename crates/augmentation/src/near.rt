@@ -1,19 +1,18 @@
-//! Pushes and the greatest potentials after an edit, in the table that holds the potentials: no table is gone over.
+//! The greatest potentials in the table that holds them, which keeps step with the labels of a tree: after an edit no
+//! table is gone over.
 
-ghost use Rattle.std.specs.Prelude.{◌≡◌, ℕ, ◌<◌, ◌≤◌, IfOk, false, length, true};
+ghost use Rattle.std.specs.Prelude.{◌≡◌, ℕ, ◌<◌, ◌≤◌, IfOk, IsTrue, false, length, true};
 ghost use Rattle.std.specs.Bool.{OnFalse};
 ghost use Rattle.residual_graph.specs.Graph.{HasEntries};
 ghost use Rattle.residual_graph.specs.Limits.{row_limit};
-ghost use Rattle.residual_graph.specs.Residual.{IsPseudoflow};
+ghost use Rattle.residual_graph.specs.Residual.{IsPseudoflow, IsReducedCostOptimal};
 ghost use Rattle.tracked.specs.Marks.{in_set};
 ghost use Rattle.tracked.specs.Touched.{NameChanges};
 ghost use Rattle.tracked.specs.Tracked.{IsWritten};
 ghost use Rattle.augmentation.specs.Held.{AllMarked, IsHeldIn};
-ghost use Rattle.augmentation.specs.Near.{AreInStep, IsRaisedOrAsBefore};
-ghost use Rattle.augmentation.specs.Pseudoflow.{IsReady};
-ghost use Rattle.augmentation.specs.Settle.{TellsGreatest};
+ghost use Rattle.augmentation.specs.Near.{AreInStep};
+ghost use Rattle.augmentation.specs.Settle.{AreShortest};
 
-use crate::adoption::{lead, take_back};
 use crate::excess::Excess;
 use crate::potentials::{is_renewed, write_all};
 use crate::scratch::Scratch;
@@ -94,7 +93,7 @@ fn note_nodes(proposals: &mut Proposals, nodes: &[u32])
 }
 
 /// Has the next proposal look at the nodes whose potential may be another.
-fn note_apart(proposals: &mut Proposals, apart: &Apart)
+pub(crate) fn note_apart(proposals: &mut Proposals, apart: &Apart)
     ensures { proposals.new ≡ proposals.old }
 {
     if apart.are_all {
@@ -130,7 +129,12 @@ fn are_many(apart: &Apart, tree: &Tree) -> bool
 
 /// Makes a table the labels of a tree, and has the next proposal look where they changed.
 #[inline(never)] // a name of its own in the program: `bench/count` counts its calls
-fn write_labels(table: &mut Tracked<i64>, apart: &mut Apart, tree: &Tree, proposals: &mut Proposals)
+pub(crate) fn write_labels(
+    table: &mut Tracked<i64>,
+    apart: &mut Apart,
+    tree: &Tree,
+    proposals: &mut Proposals,
+)
     requires sized { length tree.now.labels ≡ length table.old.entries }
     requires step { AreInStep apart.old tree.now.held.labels table.old.entries }
     ensures written { IsWritten table.old table.new }
@@ -151,7 +155,7 @@ fn write_labels(table: &mut Tracked<i64>, apart: &mut Apart, tree: &Tree, propos
 }
 
 /// Makes potentials that certify a flow the greatest that do, if the tree of labels finds these, and says whether it does.
-fn raise_near(
+pub(crate) fn raise(
     graph: &Graph,
     flow: &Tracked<i64>,
     potentials: &mut Tracked<i64>,
@@ -164,9 +168,9 @@ fn raise_near(
     requires held { IsHeldIn graph.now.rows flow.now.whole scratch.old.held }
     requires step { AreInStep apart.old scratch.old.held.labels potentials.old.entries }
     ensures written { IsWritten potentials.old potentials.new }
-    ensures shortest { TellsGreatest result graph.now flow.now potentials.new.entries }
+    ensures shortest { IsTrue result → AreShortest graph.now.rows flow.now.entries potentials.new.entries }
     ensures kept { OnFalse result (potentials.new ≡ potentials.old) }
-    ensures scratch_in { length scratch.new.potentials ≡ length scratch.old.potentials }
+    ensures same_potentials { scratch.new.potentials ≡ scratch.old.potentials }
     ensures held { IsHeldIn graph.now.rows flow.now.whole scratch.new.held }
     ensures step { AreInStep apart.new scratch.new.held.labels potentials.new.entries }
 {
@@ -186,6 +190,36 @@ fn raise_near(
     write_labels(potentials, apart, tree, &mut attempt.proposals);
     tree.accept(graph, flow.places());
     true
+}
+
+/// Makes potentials those at which pushes stand, raised to the greatest that certify the flow.
+pub(crate) fn write_raised(
+    graph: &Graph,
+    flow: &Tracked<i64>,
+    potentials: &mut Tracked<i64>,
+    apart: &mut Apart,
+    scratch: &mut Scratch,
+)
+    requires graph { HasEntries (length scratch.old.potentials) graph.now }
+    requires certified { IsReducedCostOptimal graph.now.rows
+        flow.now.entries scratch.old.potentials }
+    requires same_length { length potentials.old.entries ≡ length scratch.old.potentials }
+    requires sized { length apart.old.nodes ≡ length potentials.old.entries }
+    requires held { IsHeldIn graph.now.rows flow.now.whole scratch.old.held }
+    ensures written { IsWritten potentials.old potentials.new }
+    ensures shortest { AreShortest graph.now.rows flow.now.entries potentials.new.entries }
+    ensures scratch_in { length scratch.new.potentials ≡ length scratch.old.potentials }
+    ensures held { IsHeldIn graph.now.rows flow.now.whole scratch.new.held }
+    ensures step { AreInStep apart.new scratch.new.held.labels potentials.new.entries }
+{
+    write_all(potentials, scratch.potentials());
+    apart.are_all = true;
+    if raise(graph, flow, potentials, apart, scratch) {
+        return;
+    }
+    scratch.raise(graph, flow.entries());
+    write_all(potentials, scratch.potentials());
+    apart.are_all = true;
 }
 
 /// Gets ready for edits, where some proposal was made, so that the first one need not go over all nodes and arcs:
@@ -221,79 +255,4 @@ pub fn prepare(
     }
     list_apart(apart, tree.labels(), potentials);
     tree.accept(graph, flow.places());
-}
-
-/// Pushes as a proposal near the nodes out of balance has it, where the tree of labels certifies that, and counts the pushes;
-/// the potentials become the greatest that certify the flow. Nothing where the tree does not.
-fn push_proposed_near(
-    graph: &Graph,
-    flow: &mut Tracked<i64>,
-    excess: &mut Excess,
-    potentials: &mut Tracked<i64>,
-    apart: &mut Apart,
-    scratch: &mut Scratch,
-) -> Option<u64>
-    requires ready { IsReady graph.now flow.old.entries potentials.old.entries excess.old }
-    requires scratch_in { length scratch.old.potentials ≡ length potentials.old.entries }
-    requires held { IsHeldIn graph.now.rows flow.old.whole scratch.old.held }
-    requires step { AreInStep apart.old scratch.old.held.labels potentials.old.entries }
-    ensures flow_written { IsWritten flow.old flow.new }
-    ensures potentials_written { IsWritten potentials.old potentials.new }
-    ensures pushed { IsRaisedOrAsBefore graph.now result
-        flow.old flow.new excess.old excess.new potentials.old potentials.new }
-    ensures scratch_in { length scratch.new.potentials ≡ length scratch.old.potentials }
-    ensures held { IsHeldIn graph.now.rows flow.new.whole scratch.new.held }
-    ensures step { AreInStep apart.new scratch.new.held.labels potentials.new.entries }
-{
-    let attempt = &mut scratch.attempt;
-    note_apart(&mut attempt.proposals, apart);
-    attempt.propose_near(graph, flow.entries(), excess, potentials.entries());
-    let count = lead(graph, flow, excess, attempt)?;
-    let tree = &mut scratch.tree;
-    let proposals = &attempt.proposals;
-    tree.lower(proposals.greatest());
-    if !is_renewed(graph, flow, proposals.potentials(), proposals.ends(), tree) {
-        take_back(flow, excess, &attempt.draft);
-        return None;
-    }
-    attempt.proposals.adopted();
-    write_labels(potentials, apart, tree, &mut attempt.proposals);
-    tree.accept(graph, flow.places());
-    Some(count)
-}
-
-/// Pushes so where there are nodes in excess and nodes in deficit, and counts the pushes; the potentials become the
-/// greatest that certify the flow. None where the tree of labels does not find these, or where nothing was proposed
-/// yet.
-pub fn push_near(
-    graph: &Graph,
-    flow: &mut Tracked<i64>,
-    excess: &mut Excess,
-    potentials: &mut Tracked<i64>,
-    apart: &mut Apart,
-    scratch: &mut Scratch,
-) -> Option<u64>
-    requires ready { IsReady graph.now flow.old.entries potentials.old.entries excess.old }
-    requires scratch_in { length scratch.old.potentials ≡ length potentials.old.entries }
-    requires held { IsHeldIn graph.now.rows flow.old.whole scratch.old.held }
-    requires step { AreInStep apart.old scratch.old.held.labels potentials.old.entries }
-    ensures flow_written { IsWritten flow.old flow.new }
-    ensures potentials_written { IsWritten potentials.old potentials.new }
-    ensures pushed { IsRaisedOrAsBefore graph.now result
-        flow.old flow.new excess.old excess.new potentials.old potentials.new }
-    ensures scratch_in { length scratch.new.potentials ≡ length scratch.old.potentials }
-    ensures held { IsHeldIn graph.now.rows flow.new.whole scratch.new.held }
-    ensures step { AreInStep apart.new scratch.new.held.labels potentials.new.entries }
-{
-    if scratch.attempt.proposals.is_fresh() {
-        return None;
-    }
-    if excess.has_both() {
-        return push_proposed_near(graph, flow, excess, potentials, apart, scratch);
-    }
-    if raise_near(graph, flow, potentials, apart, scratch) {
-        Some(0)
-    } else {
-        None
-    }
 }

@@ -1,17 +1,12 @@
 //! The greatest potentials that certify a flow: the shortest labels.
 
-ghost use Rattle.std.specs.Prelude.{◌≡◌, length, IfNone, IfSome, IsTrue};
+ghost use Rattle.std.specs.Prelude.{◌≡◌, length, IsTrue};
 ghost use Rattle.residual_graph.specs.Graph.{HasEntries};
-ghost use Rattle.residual_graph.specs.Residual.{IsPseudoflow, IsReducedCostOptimal};
-ghost use Rattle.augmentation.specs.Certificate.{IsCertificate};
+ghost use Rattle.residual_graph.specs.Residual.{IsPseudoflow};
 ghost use Rattle.augmentation.specs.Held.{AreTestedIn, IsHeldIn};
-ghost use Rattle.augmentation.specs.Settle.{AreShortest, TellsGreatest};
 ghost use Rattle.tracked.specs.Tracked.{IsWritten};
 
-use crate::certificate::certifies;
 use crate::held::{holds, holds_whole};
-use crate::scratch::Scratch;
-use crate::wanted::shift_potentials;
 use residual_ends::ResidualEnds;
 use residual_graph::Graph;
 use shortest_paths::{Residual, Tree};
@@ -98,91 +93,4 @@ pub(crate) fn is_renewed(
     }
     tree.forget();
     false
-}
-
-/// Has a tree find its labels so, and hold them where they are the greatest potentials that certify the flow; says whether
-/// they are.
-pub(crate) fn renew(
-    graph: &Graph,
-    flow: &Tracked<i64>,
-    potentials: &[i64],
-    ends: &ResidualEnds,
-    tree: &mut Tree,
-) -> bool
-    requires graph { HasEntries (length potentials.now) graph.now }
-    requires flow { IsPseudoflow (length potentials.now) graph.now.rows flow.now.entries }
-    requires sized { length tree.old.labels ≡ length potentials.now }
-    requires held { IsHeldIn graph.now.rows flow.now.whole tree.old.held }
-    ensures shortest { TellsGreatest result graph.now flow.now tree.new.labels }
-    ensures sized { length tree.new.labels ≡ length tree.old.labels }
-    ensures held { IsHeldIn graph.now.rows flow.now.whole tree.new.held }
-{
-    tree.lower(0);
-    if !is_renewed(graph, flow, potentials, ends, tree) {
-        return false;
-    }
-    tree.accept(graph, flow.places());
-    true
-}
-
-/// Takes over the greatest potentials that certify a flow, or else those that are wanted, where these certify it; says whether
-/// they are the greatest. Nothing where neither certifies it.
-pub(crate) fn certify(
-    graph: &Graph,
-    flow: &Tracked<i64>,
-    wanted: &mut [i64],
-    potentials: &mut [i64],
-    ends: &ResidualEnds,
-    tree: &mut Tree,
-) -> Option<bool>
-    requires graph { HasEntries (length potentials.old) graph.now }
-    requires flow { IsPseudoflow (length potentials.old) graph.now.rows flow.now.entries }
-    requires sized { length tree.old.labels ≡ length potentials.old }
-    requires held { IsHeldIn graph.now.rows flow.now.whole tree.old.held }
-    ensures same_length { length potentials.new ≡ length potentials.old }
-    ensures none { IfNone result (potentials.new ≡ potentials.old) }
-    ensures some { IfSome result (IsCertificate graph.now.rows flow.now.entries potentials.new) }
-    ensures sized { length tree.new.labels ≡ length tree.old.labels }
-    ensures held { IsHeldIn graph.now.rows flow.now.whole tree.new.held }
-{
-    if wanted.len() != potentials.len() {
-        return None;
-    }
-    shift_potentials(wanted);
-    if renew(graph, flow, wanted, ends, tree) {
-        potentials.copy_from_slice(tree.labels());
-        return Some(true);
-    }
-    if certifies(graph, flow.entries(), wanted) {
-        potentials.copy_from_slice(wanted);
-        return Some(false);
-    }
-    None
-}
-
-/// Writes the potentials of the scratch into the `Tracked` table, first raised to the greatest that certify the flow, where
-/// they are not known to be these.
-pub fn write_potentials(
-    graph: &Graph,
-    flow: &Tracked<i64>,
-    potentials: &mut Tracked<i64>,
-    scratch: &mut Scratch,
-    are_greatest: bool,
-)
-    requires same_length { length potentials.old.entries ≡ length scratch.old.potentials }
-    requires graph { HasEntries (length scratch.old.potentials) graph.now }
-    requires certified { IsReducedCostOptimal graph.now.rows
-        flow.now.entries scratch.old.potentials }
-    requires known { TellsGreatest are_greatest graph.now flow.now scratch.old.potentials }
-    requires held { IsHeldIn graph.now.rows flow.now.whole scratch.old.held }
-    ensures written { IsWritten potentials.old potentials.new }
-    ensures shortest { AreShortest graph.now.rows flow.now.entries potentials.new.entries }
-    ensures sized { length scratch.new.potentials ≡ length scratch.old.potentials }
-    ensures marks { scratch.new.marks ≡ scratch.old.marks }
-    ensures held { IsHeldIn graph.now.rows flow.now.whole scratch.new.held }
-{
-    if !are_greatest {
-        scratch.raise(graph, flow);
-    }
-    write_all(potentials, scratch.potentials());
 }

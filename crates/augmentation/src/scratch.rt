@@ -9,13 +9,11 @@ ghost use Rattle.shortest_paths.specs.Search.{IsForest, IsSearch};
 ghost use Rattle.shortest_paths.specs.Tree.{AreArcsNoted, StaysHeld};
 ghost use Rattle.augmentation.specs.Certificate.{AreInRange};
 ghost use Rattle.augmentation.specs.Cut.{IsParted, AreOnSide};
-ghost use Rattle.augmentation.specs.Held.{IsHeldIn};
 ghost use Rattle.augmentation.specs.Settle.{AreShortest};
 
 use crate::attempt::Attempt;
 use crate::certificate::are_in_range;
 use crate::excess::Excess;
-use crate::potentials::renew;
 use crate::side::{OnSide, mark_side};
 use crate::trails::{Ground, Trails, find_way};
 use containers::{Queue, both};
@@ -24,7 +22,7 @@ use residual_graph::{Graph, Side};
 use shortest_paths::{Predecessor, Tree, search_labels, search_levels};
 use std::alloc::{AllocError, Global};
 use std::marker::Model;
-use tracked::{Touched, Tracked};
+use tracked::Touched;
 
 /// Tables with one entry a node. Between two calls nothing is known of them but their size.
 #[derive(Drop)]
@@ -35,7 +33,7 @@ pub struct Scratch {
     pub(crate) queue: Queue,
     /// What walks back along these paths remember.
     pub(crate) trails: Trails,
-    /// Potentials while flow is pushed.
+    /// Potentials while searches push.
     pub(crate) potentials: Vec<i64>,
     /// The labels that were tested last, and what changed since.
     pub(crate) tree: Tree,
@@ -131,33 +129,28 @@ impl Scratch {
         self.tree.forget();
     }
 
-    /// Has this proposal at hand.
-    pub fn offer(&mut self, wanted: Wanted)
+    /// Has this proposal at hand, with potentials that are likely to certify it.
+    pub fn offer(&mut self, wanted: Wanted, excess: &Excess, potentials: &[i64])
+        requires excess { length excess.now ≡ length self.old.potentials }
+        requires potentials { length potentials.now ≡ length self.old.potentials }
         ensures { self.new ≡ self.old }
     {
         self.attempt.wanted = wanted;
-    }
-
-    /// Proposes where to lead a flow and its excess, from the potentials at which pushes stand.
-    pub fn propose(&mut self, graph: &Graph, flow: &[i64], excess: &[i64])
-        requires graph { HasEntries (length self.old.potentials) graph.now }
-        requires flow { IsPseudoflow (length self.old.potentials) graph.now.rows flow.now }
-        requires excess { length excess.now ≡ length self.old.potentials }
-        ensures { self.new ≡ self.old }
-    {
-        self.attempt.propose(graph, flow, excess, &self.potentials);
-    }
-
-    /// Proposes where to lead a flow and its excess, from the potentials at which pushes stand, and looks at all nodes for
-    /// that.
-    pub fn propose_from_afar(&mut self, graph: &Graph, flow: &[i64], excess: &[i64])
-        requires graph { HasEntries (length self.old.potentials) graph.now }
-        requires flow { IsPseudoflow (length self.old.potentials) graph.now.rows flow.now }
-        requires excess { length excess.now ≡ length self.old.potentials }
-        ensures { self.new ≡ self.old }
-    {
         self.attempt
-            .propose_from_afar(graph, flow, excess, &self.potentials);
+            .proposals
+            .take_over_nodes(excess.entries(), potentials, &[]);
+    }
+
+    /// Proposes where to lead a flow, its excess and potentials: the first time from afar, else near the nodes out of
+    /// balance.
+    pub fn propose(&mut self, graph: &Graph, flow: &[i64], excess: &Excess, potentials: &[i64])
+        requires graph { HasEntries (length potentials.now) graph.now }
+        requires flow { IsPseudoflow (length potentials.now) graph.now.rows flow.now }
+        requires excess { length excess.now ≡ length potentials.now }
+        requires potentials { length potentials.now ≡ length self.old.potentials }
+        ensures { self.new ≡ self.old }
+    {
+        self.attempt.propose(graph, flow, excess, potentials);
     }
 
     /// Marks the nodes in excess and all that they reach, and says whether none of these is in deficit.
@@ -235,34 +228,25 @@ impl Scratch {
         find_way(ground, &mut self.predecessors, &mut self.trails, target)
     }
 
-    /// Makes potentials that certify a flow the greatest that do.
-    pub(crate) fn raise(&mut self, graph: &Graph, flow: &Tracked<i64>)
+    /// Makes potentials that certify a flow the greatest that do, by a search from all nodes: so seldom that no search
+    /// waits for it.
+    pub(crate) fn raise(&mut self, graph: &Graph, flow: &[i64])
         requires graph { HasEntries (length self.old.potentials) graph.now }
-        requires certified { IsReducedCostOptimal graph.now.rows
-            flow.now.entries self.old.potentials }
-        requires held { IsHeldIn graph.now.rows flow.now.whole self.old.held }
+        requires certified { IsReducedCostOptimal graph.now.rows flow.now self.old.potentials }
         ensures sized { length self.new.potentials ≡ length self.old.potentials }
-        ensures marks { self.new.marks ≡ self.old.marks }
-        ensures shortest { AreShortest graph.now.rows flow.now.entries self.new.potentials }
-        ensures held { IsHeldIn graph.now.rows flow.now.whole self.new.held }
+        ensures held { self.new.held ≡ self.old.held }
+        ensures shortest { AreShortest graph.now.rows flow.now self.new.potentials }
     {
-        self.attempt.keep_step(graph, flow.entries());
-        let ends = self.attempt.proposals.ends();
-        if renew(graph, flow, &self.potentials, ends, &mut self.tree) {
-            self.potentials.copy_from_slice(self.tree.labels());
-            return;
-        }
         search_labels(
             graph,
-            flow.entries(),
+            flow,
             &mut self.potentials,
             &mut self.predecessors,
             &mut self.queue,
         );
     }
 
-    /// Makes potentials that certify a flow the greatest that do, where one of them left the range with which a search
-    /// begins: so seldom that no search waits for it.
+    /// Makes them so where one of them left the range with which a search begins.
     pub(crate) fn bring_in_range(&mut self, graph: &Graph, flow: &[i64])
         requires graph { HasEntries (length self.old.potentials) graph.now }
         requires certified { IsReducedCostOptimal graph.now.rows flow.now self.old.potentials }
@@ -271,15 +255,8 @@ impl Scratch {
         ensures certified { IsReducedCostOptimal graph.now.rows flow.now self.new.potentials }
         ensures in_range { AreInRange self.new.potentials }
     {
-        if are_in_range(&self.potentials) {
-            return;
+        if !are_in_range(&self.potentials) {
+            self.raise(graph, flow);
         }
-        search_labels(
-            graph,
-            flow,
-            &mut self.potentials,
-            &mut self.predecessors,
-            &mut self.queue,
-        );
     }
 }

@@ -365,13 +365,13 @@ impl Proposals {
         self.proposal.potentials()
     }
 
-    /// The greatest of them, or 0 if that is greater. Where few nodes were moved, these alone are looked at, since all
-    /// were at most 0 before.
+    /// The greatest of them, or 0 if that is greater. Where few nodes were moved, as is known near an edit, these alone are
+    /// looked at, since all were at most 0 before.
     pub fn greatest(&self) -> i64 {
         let potentials = self.proposal.potentials();
         match self.proposal.moved() {
-            Some(moved) => greatest_at(potentials, moved),
-            None => greatest_of(potentials),
+            Some(moved) if self.keeps_nodes => greatest_at(potentials, moved),
+            _ => greatest_of(potentials),
         }
     }
 
@@ -423,7 +423,7 @@ impl Proposals {
 
     /// Takes over what a flow leaves at each node and potentials, and lists the nodes out of balance, where what searches from
     /// both sides know is of the same nodes.
-    fn take_over_nodes(&mut self, excess: &[i64], potentials: &[i64], unbalanced: &[u32])
+    pub fn take_over_nodes(&mut self, excess: &[i64], potentials: &[i64], unbalanced: &[u32])
         requires excess { length excess.now ≡ self.old }
         requires potentials { length potentials.now ≡ self.old }
         ensures { self.new ≡ self.old }
@@ -459,14 +459,8 @@ impl Proposals {
         self.standing == Standing::InStep && self.proposal.ends().entered() == rows.len()
     }
 
-    /// Writes down where the proposal stands, less than all where there is no room for it.
+    /// Writes down which arcs are to have another flow, less than all where there is no room for them.
     pub fn write(&self, rows: &[ArcRow], flow: &[i64], wanted: &mut Wanted) {
-        let _potentials = wanted.take_potentials(&self.proposal);
-        self.write_changes(rows, flow, wanted);
-    }
-
-    /// Writes down which arcs are to have another flow.
-    pub fn write_changes(&self, rows: &[ArcRow], flow: &[i64], wanted: &mut Wanted) {
         wanted.changes.clear();
         let mut first = 0;
         if let Some(returned) = self.returned {

@@ -1,6 +1,5 @@
 //! What a proposal comes to.
 
-use relaxation::Proposal;
 use std::alloc::{AllocError, Global};
 
 /// An arc whose flow is to change.
@@ -13,34 +12,21 @@ pub struct Change {
     pub flow: i64,
 }
 
-/// What is wanted: changes of a flow, and potentials. Nothing is known of the numbers, nor of how many there are.
+/// What is wanted of a flow. Nothing is known of the numbers, nor of how many there are.
 #[derive(Drop)]
 pub struct Wanted {
     /// Each arc whose flow is to change. What goes round in circles is left out when the proposal is tried.
     pub changes: Vec<Change>,
-    pub potentials: Vec<i64>,
 }
 
 impl Wanted {
-    /// Room for so many entries of nodes, and for changes of so many arcs.
+    /// Room for changes of so many arcs.
     ///
     /// # Errors
     /// Memory for a table was refused.
-    pub fn new(alloc: Global, entries: usize, arcs: usize) -> Result<Wanted, AllocError> {
+    pub fn new(alloc: Global, arcs: usize) -> Result<Wanted, AllocError> {
         let changes = Vec::with_capacity(alloc, arcs)?;
-        let potentials = Vec::with_capacity(alloc, entries)?;
-        Ok(Wanted {
-            changes,
-            potentials,
-        })
-    }
-
-    /// Takes over the potentials, as far as there is room.
-    pub(crate) fn take_potentials(&mut self, proposal: &Proposal) -> Option<()> {
-        self.potentials.clear();
-        self.potentials
-            .extend_from_slice(proposal.potentials())
-            .ok()
+        Ok(Wanted { changes })
     }
 
     /// Lists the arc in this row where it is to have another flow than it has, as far as there is room.

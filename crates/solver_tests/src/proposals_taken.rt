@@ -4,7 +4,7 @@ ghost use Rattle.std.specs.Prelude.{◌≡◌, IfOk, length};
 
 use crate::start::{MOST_ROWS, are_ready, start_flow};
 use crate::steps::{prepare, take_up};
-use augmentation::{Excess, Scratch};
+use augmentation::{Apart, Excess, Scratch};
 use dimacs_text::{ProblemReader, TextFault};
 use network::{build, check_best};
 use proposals::{Change, Wanted};
@@ -31,7 +31,7 @@ const PAIRS: &[u8] = b"p asn 4 4\nn 1\nn 2\na 1 3 5\na 1 4 2\na 2 3 4\na 2 4 3\n
 /// The one greatest flow fills the arcs out of the source.
 const GREATEST: &[u8] = b"p max 4 5\nn 1 s\nn 4 t\na 1 2 3\na 1 3 2\na 2 3 1\na 2 4 2\na 3 4 3\n";
 
-/// What is proposed: arcs with the flow that is wanted of each, and potentials.
+/// What is proposed: arcs with the flow that is wanted of each, and potentials that are likely to certify it.
 type Proposed = (&'static [(u32, i64)], &'static [i64]);
 /// What comes of it: the pushes that led to what was adopted, the pushes of the searches, the flow, what rests, and the
 /// flow's worth where it is best.
@@ -48,7 +48,7 @@ type Step = (Option<Proposed>, Outcome);
 
 /// What is proposed of `TIES`, and what comes of it. A search comes to node 3 by the third arc first, and the other way is no
 /// nearer.
-static PROPOSALS: [(Proposed, Outcome); 19] = [
+static PROPOSALS: [(Proposed, Outcome); 18] = [
     // The one way, the other, both.
     (
         (&[(2, 2)], &[0, -2, -1, 0, 0]),
@@ -94,7 +94,7 @@ static PROPOSALS: [(Proposed, Outcome); 19] = [
         ),
         (None, 1, &[0, 0, 2, 0, 0], &[0; 5], Some(4)),
     ),
-    // A potential off by one: other potentials certify the flow.
+    // A potential off by one: others are found that certify the flow.
     (
         (&[(0, 1), (1, 1), (2, 1)], &[0, -2, -2, 0, 0]),
         (Some(2), 0, &[1, 1, 1, 0, 0], &[0; 5], Some(4)),
@@ -137,18 +137,16 @@ static PROPOSALS: [(Proposed, Outcome); 19] = [
         (&[(5, 2), (u32::MAX, 2), (2, 2)], &[0, -2, -1, 0, 0]),
         (Some(2), 0, &[0, 0, 2, 0, 0], &[0; 5], Some(4)),
     ),
-    // A node that is not there.
+    // Potentials far out of their range.
     (
-        (&[(2, 2)], &[0, -2, -1, 0, 0, 0]),
-        (None, 1, &[0, 0, 2, 0, 0], &[0; 5], Some(4)),
+        (&[(2, 2)], &[i64::MIN, i64::MAX, i64::MIN, i64::MAX, 0]),
+        (Some(2), 0, &[0, 0, 2, 0, 0], &[0; 5], Some(4)),
     ),
     // Nothing.
     (
         (&[], &[0; 5]),
         (Some(0), 1, &[0, 0, 2, 0, 0], &[0; 5], Some(4)),
     ),
-    // Too short.
-    ((&[], &[]), (None, 1, &[0, 0, 2, 0, 0], &[0; 5], Some(4))),
 ];
 
 /// What is proposed where something stays: a problem, its excesses, and what comes of it.
@@ -231,11 +229,11 @@ static TWICE: [(&[u8], &[i64], Outcome); 3] = [
     ),
 ];
 
-/// An arc that is not there, and no potentials.
-static MISSING: Proposed = (&[(9, 9)], &[]);
+/// An arc that is not there.
+static MISSING: Proposed = (&[(9, 9)], &[0; 5]);
 
 /// What the searches alone come to where arcs gain.
-static SEARCHED: Outcome = (None, 4, &[2, 2, 2, 2, 0], &[0; 5], Some(10));
+static SEARCHED: Outcome = (Some(0), 4, &[2, 2, 2, 2, 0], &[0; 5], Some(10));
 
 /// A problem, the excesses with which it begins, and the tables of the searches.
 #[derive(Drop)]
@@ -243,6 +241,15 @@ struct Run {
     graph: Graph,
     balance: &'static [i64],
     scratch: Scratch,
+}
+
+/// Where a run begins: a flow, the excesses that it leaves, and potentials 0.
+#[derive(Drop)]
+struct Start {
+    flow: Tracked<i64>,
+    excess: Excess,
+    potentials: Tracked<i64>,
+    apart: Apart,
 }
 
 /// The graph of a problem text.
@@ -315,33 +322,40 @@ fn changes_of(alloc: Global, pairs: &[(u32, i64)]) -> Result<Vec<Change>, AllocE
     Ok(changes)
 }
 
-/// A proposal that is written down.
-fn wanted_of(alloc: Global, proposed: &Proposed) -> Result<Wanted, AllocError> {
-    Ok(Wanted {
-        changes: changes_of(alloc, proposed.0)?,
-        potentials: copy_of(alloc, proposed.1)?,
-    })
-}
-
 /// Takes up a proposal, or where there is none the solver's own; how many pushes led to what was
 /// adopted, and how many came after.
 fn push_from(
     rt: &impl Abort,
-    graph: &Graph,
-    flow: &mut Tracked<i64>,
-    excess: &mut Excess,
-    scratch: &mut Scratch,
-    wanted: Option<Wanted>,
+    run: &mut Run,
+    start: &mut Start,
+    wanted: Option<(Wanted, &[i64])>,
 ) -> (Option<u64>, u64) {
     let ready = are_ready(
-        graph,
-        flow.entries(),
-        excess.entries(),
-        scratch.potentials(),
+        &run.graph,
+        start.flow.entries(),
+        start.excess.entries(),
+        start.potentials.entries(),
     );
     assert!(rt; ready);
-    prepare(graph, flow.entries(), excess.entries(), scratch, wanted);
-    take_up(graph, flow, excess, scratch)
+    let entries = start.potentials.entries().len();
+    assert!(rt; run.scratch.potentials().len() == entries);
+    assert!(rt; start.apart.nodes.size() == entries);
+    prepare(
+        &run.graph,
+        start.flow.entries(),
+        &start.excess,
+        start.potentials.entries(),
+        &mut run.scratch,
+        wanted,
+    );
+    take_up(
+        &run.graph,
+        &mut start.flow,
+        &mut start.excess,
+        &mut start.potentials,
+        &mut start.apart,
+        &mut run.scratch,
+    )
 }
 
 /// Whether the flow of the network's arcs has this worth, and the potentials certify it.
@@ -353,71 +367,44 @@ fn is_best(graph: &Graph, flow: &[i64], potentials: &[i64], worth: i128) -> bool
     check_best(graph.network(), &flow[first..], &potentials[1..], worth)
 }
 
-/// The flow and the excesses with which a run begins; its potentials are set to 0.
-fn start_of(
-    rt: &impl Abort,
-    alloc: Global,
-    run: &mut Run,
-) -> Result<(Tracked<i64>, Excess), AllocError> {
-    let zeros = vec![in alloc; 0; run.scratch.potentials().len()]?;
-    run.scratch.take_potentials(&zeros);
-    drop(zeros);
+/// Where a run begins.
+fn start_of(rt: &impl Abort, alloc: Global, run: &Run) -> Result<Start, AllocError> {
+    let entries = run.balance.len();
+    assert!(rt; entries <= MOST_ROWS);
     let flow = tracked_of(rt, alloc, start_flow(alloc, run.graph.rows())?)?;
-    match excess_of(rt, alloc, run.balance) {
-        Ok(excess) => Ok((flow, excess)),
-        Err(refused) => {
-            drop(flow);
-            Err(refused)
-        }
-    }
+    let excess = excess_of(rt, alloc, run.balance)?;
+    let potentials = tracked_of(rt, alloc, vec![in alloc; 0; entries]?)?;
+    let apart = Apart::new(alloc, entries)?;
+    Ok(Start {
+        flow,
+        excess,
+        potentials,
+        apart,
+    })
 }
 
 /// This comes of a proposal, or where there is none of the solver's own, from such a start.
 fn expect_from(
     rt: &impl Abort,
     run: &mut Run,
-    mut flow: Tracked<i64>,
-    mut excess: Excess,
-    wanted: Option<Wanted>,
+    mut start: Start,
+    wanted: Option<(Wanted, &[i64])>,
     outcome: &Outcome,
 ) {
-    let pushes = push_from(
-        rt,
-        &run.graph,
-        &mut flow,
-        &mut excess,
-        &mut run.scratch,
-        wanted,
-    );
+    let pushes = push_from(rt, run, &mut start, wanted);
     assert_eq!(rt; pushes, (outcome.0, outcome.1));
-    assert_eq!(rt; flow.entries(), outcome.2);
-    assert_eq!(rt; excess.entries(), outcome.3);
+    assert_eq!(rt; start.flow.entries(), outcome.2);
+    assert_eq!(rt; start.excess.entries(), outcome.3);
     if let Some(worth) = outcome.4 {
-        let best = is_best(&run.graph, flow.entries(), run.scratch.potentials(), worth);
+        let best = is_best(
+            &run.graph,
+            start.flow.entries(),
+            run.scratch.potentials(),
+            worth,
+        );
         assert!(rt; best);
     }
-    drop(flow);
-    drop(excess);
-}
-
-/// This comes of a proposal, or where there is none of the solver's own.
-fn expect(
-    rt: &impl Abort,
-    alloc: Global,
-    run: &mut Run,
-    wanted: Option<Wanted>,
-    outcome: &Outcome,
-) -> Result<(), AllocError> {
-    match start_of(rt, alloc, run) {
-        Ok((flow, excess)) => {
-            expect_from(rt, run, flow, excess, wanted, outcome);
-            Ok(())
-        }
-        Err(refused) => {
-            drop(wanted);
-            Err(refused)
-        }
-    }
+    drop(start);
 }
 
 /// This comes of a proposal that is written down, or where there is none of the solver's own.
@@ -428,10 +415,24 @@ fn expect_step(
     step: &Step,
 ) -> Result<(), AllocError> {
     let wanted = match &step.0 {
-        Some(proposed) => Some(wanted_of(alloc, proposed)?),
+        Some((changes, told)) => Some((
+            Wanted {
+                changes: changes_of(alloc, changes)?,
+            },
+            *told,
+        )),
         None => None,
     };
-    expect(rt, alloc, run, wanted, &step.1)
+    match start_of(rt, alloc, run) {
+        Ok(start) => {
+            expect_from(rt, run, start, wanted, &step.1);
+            Ok(())
+        }
+        Err(refused) => {
+            drop(wanted);
+            Err(refused)
+        }
+    }
 }
 
 /// The same of proposals, one after the other in the same tables.

@@ -3,25 +3,31 @@
 ghost use Rattle.std.specs.Prelude.{◌≡◌, length};
 ghost use Rattle.augmentation.specs.Pseudoflow.{IsCertifiedPseudoflow, IsReady};
 
-use augmentation::{Excess, Scratch, adopt, finish};
+use augmentation::{Apart, Excess, Scratch, adopt, finish};
 use proposals::Wanted;
 use residual_graph::Graph;
 use tracked::Tracked;
 
-/// Has this proposal at hand, or where there is none the solver's own.
+/// Has this proposal at hand, with the potentials that are told to certify it, or where there is none the solver's own.
 pub fn prepare(
     graph: &Graph,
     flow: &[i64],
-    excess: &[i64],
+    excess: &Excess,
+    potentials: &[i64],
     scratch: &mut Scratch,
-    wanted: Option<Wanted>,
+    wanted: Option<(Wanted, &[i64])>,
 )
-    requires state { IsCertifiedPseudoflow graph.now flow.now scratch.old.potentials excess.now }
+    requires state { IsCertifiedPseudoflow graph.now flow.now potentials.now excess.now }
+    requires scratch_in { length scratch.old.potentials ≡ length potentials.now }
     ensures { scratch.new ≡ scratch.old }
 {
     match wanted {
-        Some(wanted) => scratch.offer(wanted),
-        None => scratch.propose(graph, flow, excess),
+        Some((wanted, told)) => {
+            if told.len() == potentials.len() {
+                scratch.offer(wanted, excess, told);
+            }
+        }
+        None => scratch.propose(graph, flow, excess, potentials),
     }
 }
 
@@ -31,13 +37,17 @@ pub fn take_up(
     graph: &Graph,
     flow: &mut Tracked<i64>,
     excess: &mut Excess,
+    potentials: &mut Tracked<i64>,
+    apart: &mut Apart,
     scratch: &mut Scratch,
 ) -> (Option<u64>, u64)
-    requires ready { IsReady graph.now flow.old.entries scratch.old.potentials excess.old }
+    requires ready { IsReady graph.now flow.old.entries potentials.old.entries excess.old }
+    requires scratch_in { length scratch.old.potentials ≡ length potentials.old.entries }
+    requires apart_in { length apart.old.nodes ≡ length potentials.old.entries }
 {
     scratch.forget();
-    match adopt(graph, flow, excess, scratch) {
-        Some(pushed) => (Some(pushed.count), finish(graph, flow, excess, scratch)),
-        None => (None, finish(graph, flow, excess, scratch)),
-    }
+    apart.are_all = true;
+    let adopted = adopt(graph, flow, excess, potentials, apart, scratch);
+    scratch.take_potentials(potentials.entries());
+    (adopted, finish(graph, flow, excess, scratch))
 }

@@ -15,38 +15,42 @@ returns-then-not-has_both-clause-parted c =
 
 pub returns-then-not-has_both-2-clause-greatest : goal.returns-then-not-has_both-2-clause-greatest
 returns-then-not-has_both-2-clause-greatest c =
-    greatest_labels c.args.graph.now.net c.args.graph.now.rows c.push_near.new.flow.entries c.push_near.new.potentials.entries c.requires.rows c.in-Some.ensures.pushed.shortest.greatest
+    greatest_labels c.args.graph.now.net c.args.graph.now.rows c.push_proposed.new.flow.entries c.push_proposed.new.potentials.entries c.requires.rows c.in-Some.ensures.pushed.shortest.greatest
 
 pub returns-then-not-has_both-2-clause-parted : goal.returns-then-not-has_both-2-clause-parted
 returns-then-not-has_both-2-clause-parted c =
     let ready = c.in-Some.ensures.pushed.certified.ready in
     let rows = c.args.graph.now.rows in
-    let y = c.push_near.new.flow.entries in
+    let y = c.push_proposed.new.flow.entries in
     parted_unless_both rows y c.tidy.new.self
     (subst (λ (e : List ℤ). IsPseudoflow (length e) rows y) (sym c.tidy.ensures) (rw ready.state.excess_in ready.state.certified.flow))
     (λ both. false≢true (sym c.if-not-has_both-2.true ∙ c.has_both-2.ensures.1 both))
 
 pub returns-then-is_parted-clause-greatest : goal.returns-then-is_parted-clause-greatest
 returns-then-is_parted-clause-greatest c =
-    greatest_labels c.args.graph.now.net c.args.graph.now.rows c.push_near.new.flow.entries c.push_near.new.potentials.entries c.requires.rows c.in-Some.ensures.pushed.shortest.greatest
+    greatest_labels c.args.graph.now.net c.args.graph.now.rows c.push_proposed.new.flow.entries c.push_proposed.new.potentials.entries c.requires.rows c.in-Some.ensures.pushed.shortest.greatest
 
-pub push_and_raise_all-more-requires-clause-told : goal.push_and_raise_all-more-requires-clause-told
-push_and_raise_all-more-requires-clause-told c = λ yes.
-    greatest_labels c.args.graph.now.net c.args.graph.now.rows c.push_near.new.flow.entries c.push_near.new.potentials.entries c.requires.rows c.in-Some.ensures.pushed.shortest.greatest
+pub returns-in_default-clause-greatest : goal.returns-in_default-clause-greatest
+returns-in_default-clause-greatest c =
+    greatest_labels c.args.graph.now.net c.args.graph.now.rows c.push_all-count.new.flow.entries c.push_all-count.new.potentials.entries c.requires.rows c.push_all-count.ensures.pushed.shortest.greatest
+
+pub returns-clause-greatest : goal.returns-clause-greatest
+returns-clause-greatest c =
+    greatest_labels c.args.graph.now.net c.args.graph.now.rows c.push_all-more.new.flow.entries c.push_all-more.new.potentials.entries c.requires.rows c.push_all-more.ensures.pushed.shortest.greatest
 
 pub overflow_add-result : goal.overflow_add-result
 overflow_add-result c =
     let ready = c.requires.ready in
     let small : left c.args.excess.now ≤ left_limit = left-small (length c.args.potentials.now.table.entries) c.args.excess.now ready.state.small ready.state.excess_in ready.state.certified.flow.few_nodes in
-    let before : left c.tidy.new.self ≡ left c.push_near.new.excess = ap left c.tidy.ensures in
+    let before : left c.tidy.new.self ≡ left c.push_proposed.new.excess = ap left c.tidy.ensures in
     let first = c.in-Some.ensures.pushed.certified.pushes.count in
-    let rest = c.push_and_raise_all-more.ensures.pushed.count in
-    let bound : c.in-Some.count + c.push_and_raise_all-more.result.count < 2 ^ 64 = omega (arith, small, before, first, rest) in
+    let rest = c.push_all-more.ensures.pushed.certified.pushes.count in
+    let bound : c.in-Some.count + c.push_all-more.result < 2 ^ 64 = omega (arith, small, before, first, rest) in
     search (rules, bound)
 
 pub returns-clause-pushed : goal.returns-clause-pushed
 returns-clause-pushed c =
     let rows = c.args.graph.now.rows in
-    let more = c.push_and_raise_all-more in
+    let more = c.push_all-more in
     ArePushes-more c.in-Some.ensures.pushed.certified.pushes
-    (subst (λ (e : List ℤ). ArePushes rows more.result.count c.push_near.new.flow.entries e more.new.flow.entries more.new.excess) c.tidy.ensures more.ensures.pushed)
+    (subst (λ (e : List ℤ). ArePushes rows more.result c.push_proposed.new.flow.entries e more.new.flow.entries more.new.excess) c.tidy.ensures more.ensures.pushed.certified.pushes)

@@ -3,7 +3,7 @@ use Rattle.shortest_paths.specs.Tree.{TreeView}
 use Rattle.augmentation.specs.ScratchView.{ScratchView}
 use Rattle.augmentation.specs.Settle.{AreShortest}
 use Rattle.augmentation.proofs.HeldLemmas.{held_by, shortest_of}
-use Rattle.augmentation.proofs.near.raise_near.Goals as goal
+use Rattle.augmentation.proofs.near.raise.Goals as goal
 
 pub returns-clause-shortest : goal.returns-clause-shortest
 returns-clause-shortest c = λ yes.
