@@ -48,6 +48,9 @@ pub struct Search {
     got: usize,
     /// How many nodes were settled since counting began.
     settled_nodes: u64,
+    /// Whether ascents may join searches, and whether they did.
+    pub(crate) may_ascend: bool,
+    pub(crate) ascended: bool,
     /// How many ends of arcs searches looked at.
     pub(crate) looks: u64,
     /// How many pushes were made.
@@ -98,6 +101,8 @@ impl Search {
             goals: 0,
             got: 0,
             settled_nodes: 0,
+            may_ascend: true,
+            ascended: false,
             looks: 0,
             pushes: 0,
         })
@@ -113,6 +118,21 @@ impl Search {
     /// How many nodes were settled since counting began.
     pub fn settled_nodes(&self) -> u64 {
         self.settled_nodes
+    }
+
+    /// Lets ascents join searches.
+    pub fn let_ascend(&mut self)
+        ensures { self.new ≡ self.old }
+    {
+        self.may_ascend = true;
+        self.ascended = false;
+    }
+
+    /// Lets ascents join later searches only if they joined those so far.
+    pub fn keep_to_ascents(&mut self)
+        ensures { self.new ≡ self.old }
+    {
+        self.may_ascend = self.ascended;
     }
 
     /// How many nodes the last search settled.

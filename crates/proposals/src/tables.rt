@@ -145,7 +145,9 @@ impl Proposals {
         self.proposal.load_nodes(excess, potentials);
         load_arcs(&mut self.proposal, rows, flow);
         self.returned = None;
+        self.search.let_ascend();
         self.solve(rows, flow, excess, aim);
+        self.search.keep_to_ascents();
     }
 
     /// Leads the proposal on towards the aim, and looks at all nodes for that.

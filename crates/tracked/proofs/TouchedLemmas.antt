@@ -1,12 +1,11 @@
 -- Tables that note where they are written: notes that are forgotten, and what was written in turn.
-use Rattle.std.proofs.Common.{◌≡◌, ℕ, suc, ◌+◌, ◌<◌, List, [], ◌∷◌, length, refl, sym, ap, subst, ◌∙◌, inl, inr, arith, Bool, true, false, cond, not}
-use Rattle.std.specs.Prelude.{◌⊎◌, slice_set}
+use Rattle.std.proofs.Common.{◌≡◌, ℕ, suc, ◌+◌, ◌<◌, ◌≤◌, List, [], ◌∷◌, length, refl, sym, ap, subst, ◌∙◌, inl, inr, arith, Bool, true, false, cond, not}
+use Rattle.std.specs.Prelude.{◌⊎◌, ◌≢◌, slice_index_or, slice_set}
 use Rattle.std.proofs.lemmas.Bool.{cases_eq, cases_lt, false≢true, true≢false, false_from_ne_true}
-use Rattle.std.proofs.lemmas.List.{length-set, get_or-set_same, get_or-set_other, get_or_past}
+use Rattle.std.proofs.lemmas.List.{length-set, get_or-set_same, get_or-set_other, get_or_default, get_or_past}
 use Rattle.std.proofs.lemmas.List.Sums.{sum_by-cons}
 use Rattle.std.specs.List.{count_by}
 use Rattle.tracked.specs.Marks.{in_set, IsListOf}
-use Rattle.tracked.specs.NodeLists.{node_at}
 use Rattle.tracked.specs.Touched.{AreNoted}
 
 -- a place is noted, or it is not
@@ -36,7 +35,7 @@ noted_in noted k h = elim (cases_lt k (length noted)) [
 -- the first j of the places are not noted now, and nothing is noted that was not
 pub record AreForgotten (noted : List Bool) (places : List ℕ) (j : ℕ) (noted' : List Bool) : Type 0 where
   pub same_size : length noted' ≡ length noted
-  pub forgotten : (i : ℕ) → i < j → in_set noted' (node_at places i) ≡ false
+  pub forgotten : (i d : ℕ) → i < j → i < length places → in_set noted' (slice_index_or places i d) ≡ false
   pub before : (k : ℕ) → in_set noted' k ≡ true → in_set noted k ≡ true
 
 not_noted : (noted : List Bool) (place k : ℕ) → (k ≡ place) ⊎ (in_set noted k ≡ false) → in_set (slice_set noted place false) k ≡ false
@@ -48,33 +47,40 @@ not_noted noted place k out = elim (cases_eq k place) [
   ]
 ]
 
-pub AreForgotten-more : (noted : List Bool) (places : List ℕ) (j place : ℕ) (noted' : List Bool) → AreForgotten noted places j noted' → place ≡ node_at places j → AreForgotten noted places (j + 1) (slice_set noted' place false)
-AreForgotten-more noted places j place noted' are is = record {
-  same_size = length-set noted' place false ∙ are.same_size;
-  forgotten = λ i lt. not_noted noted' place (node_at places i) (elim (cases_eq i j) [
-    | inl same ↦ inl (ap (node_at places) same ∙ sym is)
-    | inr other ↦ inr (are.forgotten i (omega (arith, lt, other)))
-  ]);
-  before = λ k h. elim (cases_eq k place) [
-    | inl same ↦ absurd (true≢false (sym h ∙ not_noted noted' place k (inl same)))
-    | inr other ↦ are.before k (sym (get_or-set_other noted' place k false false other) ∙ h)
-  ];
-}
+pub AreForgotten-more : (noted : List Bool) (places : List ℕ) (j e : ℕ) (noted' : List Bool) → AreForgotten noted places j noted' → AreForgotten noted places (j + 1) (slice_set noted' (slice_index_or places j e) false)
+AreForgotten-more noted places j e noted' are =
+    let place = slice_index_or places j e in
+    record {
+      same_size = length-set noted' place false ∙ are.same_size;
+      forgotten = λ i d lt there. not_noted noted' place (slice_index_or places i d) (elim (cases_eq i j) [
+        | inl same ↦ inl (get_or_default places i d e there ∙ ap (λ q. slice_index_or places q e) same)
+        | inr other ↦ inr (are.forgotten i d (omega (arith, lt, other)) there)
+      ]);
+      before = λ k h. elim (cases_eq k place) [
+        | inl same ↦ absurd (true≢false (sym h ∙ not_noted noted' place k (inl same)))
+        | inr other ↦ are.before k (sym (get_or-set_other noted' place k false false other) ∙ h)
+      ];
+    }
 
-pub AreForgotten-all : (noted : List Bool) (places : List ℕ) (len : ℕ) (noted' : List Bool) → IsListOf noted places len → AreForgotten noted places len noted' → (k : ℕ) → in_set noted' k ≡ false
-AreForgotten-all noted places len noted' line are k = false_from_ne_true (in_set noted' k) (λ h. (let listed = line.listed k (are.before k h) in true≢false (sym h ∙ subst (λ (q : ℕ). in_set noted' q ≡ false) listed.is_there (are.forgotten listed.place listed.in_list))))
+pub AreForgotten-all : (noted : List Bool) (places : List ℕ) (j : ℕ) (noted' : List Bool) → IsListOf noted places → length places ≤ j → AreForgotten noted places j noted' → (k : ℕ) → in_set noted' k ≡ false
+AreForgotten-all noted places j noted' list all are k = false_from_ne_true (in_set noted' k) still
+  where
+    still : in_set noted' k ≢ true
+    still h =
+        let (i, p, lt, is, same) = list.listed k (are.before k h) in
+        true≢false (sym h ∙ subst (λ (q : ℕ). in_set noted' q ≡ false) (is ∙ same) (are.forgotten i p (omega (arith, lt, all)) lt))
 
 all_out : (set : List Bool) → ((k : ℕ) → in_set set k ≡ false) → count_by not set ≡ length set
 all_out [] none = refl
 all_out (true ∷ set) none = absurd (true≢false (none 0))
 all_out (false ∷ set) none = omega (arith, sum_by-cons (λ (b : Bool). cond (not b) 1 0) false set, all_out set (λ k. none (suc k)))
 
--- the line of no place
-pub IsListOf-none : (noted : List Bool) (places : List ℕ) → length places ≡ length noted → ((k : ℕ) → in_set noted k ≡ false) → IsListOf noted places 0
-IsListOf-none noted places sized none = record {
-  one_a_node = sized;
-  inside = λ j lt. absurd (omega arith);
+-- the list of no place
+pub IsListOf-none : (noted : List Bool) → ((k : ℕ) → in_set noted k ≡ false) → IsListOf noted []
+IsListOf-none noted none = record {
+  inside = λ k d lt. absurd (omega (arith, lt));
   listed = λ k h. absurd (true≢false (sym h ∙ none k));
+  apart = λ i j d before lt. absurd (omega (arith, lt));
   room = omega (arith, all_out noted none);
 }
 

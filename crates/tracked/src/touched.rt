@@ -11,22 +11,22 @@ use std::marker::Model;
 #[derive(Drop)]
 pub struct Touched {
     marks: Vec<bool>,
+    /// With room for each place from the start: where few are noted, most of that memory is never touched.
     places: Vec<u32>,
-    len: usize,
 }
 
 impl Model for Touched {
-    ghost use Rattle.std.specs.Prelude.{ℕ, ◌<◌, ◌≤◌, ◌≢◌, List, Bool, length};
+    ghost use Rattle.std.specs.Prelude.{◌≤◌, List, Bool, length, vec_capacity};
     ghost use Rattle.residual_graph.specs.Limits.{row_limit};
     ghost use Rattle.tracked.specs.Marks.{IsListOf};
-    ghost use Rattle.tracked.specs.NodeLists.{node_at};
 
     ghost Value = { List Bool };
 
     ghost view = { λ t. t.marks.items };
 
-    ghost invariant = { λ t. IsListOf t.marks.items t.places.items t.len × (length t.marks.items ≤ row_limit)
-        × ((i j : ℕ) → i < j → j < t.len → node_at t.places.items i ≢ node_at t.places.items j) };
+    ghost invariant = { λ t. IsListOf t.marks.items t.places.items
+        × (length t.marks.items ≤ row_limit)
+        × (length t.marks.items ≤ vec_capacity t.places) };
 }
 
 impl Touched {
@@ -39,12 +39,8 @@ impl Touched {
         ensures { IfOk result (λ t. t ≡ replicate size false) }
     {
         let marks = vec![in alloc; false; size]?;
-        let places = vec![in alloc; 0; size]?;
-        Ok(Touched {
-            marks,
-            places,
-            len: 0,
-        })
+        let places = Vec::with_capacity(alloc, size)?;
+        Ok(Touched { marks, places })
     }
 
     /// How many places the table has.
@@ -63,8 +59,7 @@ impl Touched {
             return;
         }
         self.marks[place] = true;
-        self.places[self.len] = place as u32;
-        self.len += 1;
+        self.places.push_reserved(place as u32);
     }
 
     /// Whether a place was noted.
@@ -81,7 +76,7 @@ impl Touched {
         ensures noted { All (λ p. in_set self.now p ≡ true) result.now }
         ensures apart { AllPairs ◌≢◌ result.now }
     {
-        &self.places[..self.len]
+        &self.places
     }
 
     /// Forgets all places.
@@ -89,9 +84,9 @@ impl Touched {
         ensures size { length self.new ≡ length self.old }
         ensures none { (k : ℕ) → in_set self.new k ≡ false }
     {
-        for j in 0..self.len {
+        for j in 0..self.places.len() {
             self.marks[self.places[j] as usize] = false;
         }
-        self.len = 0;
+        self.places.clear();
     }
 }
