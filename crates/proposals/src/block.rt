@@ -242,9 +242,11 @@ fn tighten_all<const AHEAD: bool>(
     for v in settled.listed() {
         let v = *v as usize;
         let potential = seen::<AHEAD>(proposal.potential(v));
-        let key = records.reach(v).saturating_sub(potential);
-        let shift = length.saturating_sub(key);
-        let _lowered = proposal.lower::<AHEAD>(v, shift);
+        let key = records.reach(v).wrapping_sub(potential); // far within the range, and so is the shift
+        let shift = length.wrapping_sub(key);
+        if shift > 0 {
+            let _lowered = proposal.lower::<AHEAD>(v, shift);
+        }
     }
 }
 

@@ -91,6 +91,14 @@ impl Records {
         self.reaches[v] = reach;
     }
 
+    /// Lets only paths be written down that are at most so long, from nodes of these potentials, as a side sees them.
+    pub fn limit_all<const AHEAD: bool>(&mut self, potentials: &[i64], most: i64)
+        requires { length potentials.now ≡ self.old }
+        ensures { self.new ≡ self.old }
+    {
+        set_reaches::<AHEAD>(&mut self.reaches, potentials, most);
+    }
+
     /// Lets walks begin anew at a node that is settled.
     pub fn begin_walks(&mut self, v: usize)
         requires { v < self.old }
@@ -134,5 +142,19 @@ impl Records {
         ensures { self.new ≡ self.old }
     {
         self.table[v].gone = gone;
+    }
+}
+
+/// Makes a path to each node reach so far that it is as long as this. The sums are far within the range.
+fn set_reaches<const AHEAD: bool>(reaches: &mut [i64], potentials: &[i64], most: i64)
+    requires { length potentials.now ≡ length reaches.old }
+    ensures { length reaches.new ≡ length reaches.old }
+{
+    for v in 0..reaches.len() {
+        reaches[v] = if AHEAD {
+            most.wrapping_add(potentials[v])
+        } else {
+            most.wrapping_sub(potentials[v])
+        };
     }
 }

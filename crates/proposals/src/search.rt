@@ -12,9 +12,9 @@ use std::alloc::{AllocError, Global};
 use std::marker::Model;
 use two_sided::{FAR, Frontier, NO_PLACE, State};
 
-/// What an arc that searches do not use adds to the length of a path, so that it is longer than `FAR` whatever the reduced
-/// cost of the arc is. A test in its place is one that processors often predict wrongly: with it, proposals of plans and
-/// infeasible networks took up to a tenth longer.
+/// How far a path over an arc that searches do not use is said to reach: further than any other. It is less than the greatest
+/// number, since against that a compiler makes a test of it, which processors often predict wrongly: with one, proposals of
+/// plans and infeasible networks took up to a tenth longer.
 const BARRED: i64 = 4_400_000_000_000_000_000;
 
 /// A search for some goals first takes paths up to so many times as long as searches usually went of late: so it lines up
@@ -198,15 +198,16 @@ impl Search {
         self.frontier.forget();
         self.last = 0;
         self.got = 0;
+        self.records
+            .limit_all::<AHEAD>(proposal.potentials(), limit);
         let mut goals: usize = 0;
         for v in 0..self.entries() {
-            let potential = seen::<AHEAD>(proposal.potential(v));
-            self.records.limit(v, potential.wrapping_add(limit)); // far within the range
-            if self.records.is_gone(v) {
+            // Most nodes are in balance.
+            if proposal.rest(v) == 0 || self.records.is_gone(v) {
                 continue;
             }
             if proposal.is_root::<AHEAD>(v) {
-                self.begin_at(v, potential);
+                self.begin_at(v, seen::<AHEAD>(proposal.potential(v)));
             } else if proposal.is_goal::<AHEAD>(v) {
                 goals = goals.saturating_add(1);
             }
@@ -356,16 +357,16 @@ fn nearer_from<const AHEAD: bool>(
     None
 }
 
-/// How far a path reaches that goes on over an arc, where searches use it: over another one further than any. Sums wrap, as
-/// in `note`.
+/// How far a path reaches that goes on over an arc, where searches use it: over another one further than any. The sum wraps,
+/// as in `note`.
 #[inline(always)]
 fn reach_over<const AHEAD: bool>(reach: i64, link: &Link, is_open: bool) -> i64 {
-    let barred = if is_open { 0 } else { BARRED };
-    if AHEAD {
-        reach.wrapping_add(link.cost).wrapping_add(barred)
+    let over = if AHEAD {
+        reach.wrapping_add(link.cost)
     } else {
-        reach.wrapping_sub(link.cost).wrapping_add(barred)
-    }
+        reach.wrapping_sub(link.cost)
+    };
+    if is_open { over } else { BARRED }
 }
 
 /// Takes all paths to the nodes to which none is known.
