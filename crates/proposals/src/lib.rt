@@ -10,7 +10,6 @@
 //! fail for lack of memory, since its type has no such answer; that none is taken is not proved.
 #![tactic(auto)]
 
-mod added;
 mod block;
 mod greatest;
 mod home;

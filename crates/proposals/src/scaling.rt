@@ -70,7 +70,7 @@ fn leaves_open(proposal: &Proposal, least: i64) -> bool {
     let mut all: u64 = 0;
     let mut closed: u64 = 0;
     for v in 0..proposal.entries() {
-        for link in proposal.ends_at(v).links {
+        for link in proposal.ends().at(v).links {
             let room = link.room::<true>();
             if room > 0 {
                 all = all.saturating_add(1);
@@ -99,10 +99,10 @@ fn fill_at(proposal: &mut Proposal, v: usize)
     ensures { proposal.new ≡ proposal.old }
 {
     let potential = proposal.potential(v);
-    let first = proposal.ends_at(v).first;
-    for k in 0..proposal.ends_at(v).links.len() {
+    let first = proposal.ends().at(v).first;
+    for k in 0..proposal.ends().at(v).links.len() {
         let place = first.saturating_add(k as u32);
-        let Some(link) = proposal.link(place) else {
+        let Some(link) = proposal.ends().link(place) else {
             return;
         };
         let room = link.room::<true>();

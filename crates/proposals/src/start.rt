@@ -106,7 +106,7 @@ fn arcs_to(proposal: &Proposal, v: usize) -> u32
     requires { v < proposal.now }
 {
     let mut count: u32 = 0;
-    for link in proposal.ends_at(v).links {
+    for link in proposal.ends().at(v).links {
         if link.room::<false>() > 0 && link.other as usize != v {
             count = count.saturating_add(1);
         }
@@ -123,7 +123,7 @@ fn pass(records: &mut Records, queue: &mut Nodes, proposal: &Proposal, u: usize)
     ensures records { records.new ≡ records.old }
     ensures queue { queue.new ≡ queue.old }
 {
-    for link in proposal.ends_at(u).links {
+    for link in proposal.ends().at(u).links {
         let v = link.other as usize;
         if link.room::<true>() <= 0 || v == u {
             continue;
@@ -188,11 +188,11 @@ fn lower_beyond(proposal: &mut Proposal, v: usize) -> usize
     ensures { proposal.new ≡ proposal.old }
 {
     let potential = proposal.potential(v);
-    let first = proposal.ends_at(v).first;
+    let first = proposal.ends().at(v).first;
     let mut lowered: usize = 0;
-    for k in 0..proposal.ends_at(v).links.len() {
+    for k in 0..proposal.ends().at(v).links.len() {
         let place = first.saturating_add(k as u32);
-        let Some(link) = proposal.link(place) else {
+        let Some(link) = proposal.ends().link(place) else {
             break;
         };
         let reduced_cost = proposal.reduced_cost::<true>(potential, &link);

@@ -2,7 +2,6 @@
 
 ghost use Rattle.std.specs.Prelude.{◌≡◌, ◌<◌, ◌^◌, ◌*◌, IfOk, length};
 
-use crate::added::{add, renew, take_out};
 use crate::greatest::{Roots, solve_from};
 use crate::search::Search;
 use crate::solving::solve;
@@ -94,7 +93,7 @@ impl Proposals {
         let proposal = Proposal::new(alloc, entries, arcs);
         let relaxing = both(Ring::new(alloc, entries), Sets::new(alloc, entries, arcs));
         let search = Search::new(alloc, entries);
-        let near = both(Between::new(alloc, entries, arcs), Noted::new(alloc, arcs));
+        let near = both(Between::new(alloc, entries), Noted::new(alloc, arcs));
         let ((proposal, (ring, sets)), (search, (between, noted))) = both(
             both(proposal, relaxing),
             both(search, near),
@@ -231,7 +230,7 @@ impl Proposals {
         let Some(row) = rows.first() else {
             return false;
         };
-        let Some(link) = self.proposal.link(self.proposal.ends().tail_of(0)) else {
+        let Some(link) = self.proposal.ends().link(self.proposal.ends().tail_of(0)) else {
             return false;
         };
         let stands = flow_of(&self.proposal, 0, row, flow[0]);
@@ -289,7 +288,7 @@ impl Proposals {
             return;
         }
         if self.returned.is_some() && !rows.is_empty() {
-            let _opened = self.proposal.renew(0, &arc_of(&rows[0], flow[0]));
+            let _opened = self.proposal.renew(0, &Arc::new(&rows[0], flow[0]));
         }
         self.returned = None;
         for change in changes {
@@ -331,7 +330,7 @@ impl Proposals {
                 self.noted.note(change.arc);
             }
         }
-        self.between.load(&self.proposal);
+        self.between.load(&mut self.proposal);
     }
 
     /// Brings an arc in step, and says whether it is: not where another arc has its number now.
@@ -343,7 +342,7 @@ impl Proposals {
         if k >= rows.len() || flow_of(&self.proposal, k, &rows[k], flow[k]) == flow[k] {
             return true;
         }
-        self.proposal.renew(k, &arc_of(&rows[k], flow[k]))
+        self.proposal.renew(k, &Arc::new(&rows[k], flow[k]))
     }
 
     /// Notes that a node may have got another potential.
@@ -404,18 +403,12 @@ impl Proposals {
         ensures { self.new ≡ self.old }
     {
         let is_renewed = self.keeps_step(rows)
-            && renew_all(
-                &mut self.proposal,
-                &mut self.between,
-                &self.noted,
-                rows,
-                flow,
-            );
+            && renew_all(&mut self.proposal, &self.between, &self.noted, rows, flow);
         if !is_renewed {
             self.returned = None;
             self.proposal.list_moved();
             load_arcs(&mut self.proposal, rows, flow);
-            self.between.load(&self.proposal);
+            self.between.load(&mut self.proposal);
             self.noted.open();
             self.standing = Standing::InStep;
             self.keeps_nodes = false;
@@ -480,28 +473,12 @@ impl Proposals {
     }
 }
 
-/// An arc of such a row, which carries such a flow.
-#[inline(always)]
-fn arc_of(row: &ArcRow, flow: i64) -> Arc
-    ensures low { result.low ≡ row.now.low }
-    ensures cap { result.cap ≡ row.now.cap }
-{
-    Arc {
-        tail: row.tail,
-        head: row.head,
-        low: row.low,
-        cap: row.cap,
-        cost: row.cost,
-        flow,
-    }
-}
-
 /// An arc of such a row that carries so much and has no room.
 fn closed(row: &ArcRow, flow: i64) -> Arc {
     Arc {
         low: flow,
         cap: flow,
-        ..arc_of(row, flow)
+        ..Arc::new(row, flow)
     }
 }
 
@@ -511,16 +488,7 @@ fn load_arcs(proposal: &mut Proposal, rows: &[ArcRow], flow: &[i64])
     requires { length flow.now ≡ length rows.now }
     ensures { proposal.new ≡ proposal.old }
 {
-    let arcs = proposal.clear_arcs(rows.len());
-    for row in rows {
-        proposal.count_end(row.tail);
-        proposal.count_end(row.head);
-    }
-    proposal.make_room();
-    for j in 0..arcs {
-        let k = arcs - 1 - j;
-        proposal.enter(k, &arc_of(&rows[k], flow[k]));
-    }
+    proposal.load_arcs(rows, flow);
 }
 
 /// Notes each of these arcs.
@@ -535,7 +503,7 @@ fn note_each(noted: &mut Noted, places: &[u32]) {
 /// places where they were used up.
 fn renew_all(
     proposal: &mut Proposal,
-    between: &mut Between,
+    between: &Between,
     noted: &Noted,
     rows: &[ArcRow],
     flow: &[i64],
@@ -548,12 +516,12 @@ fn renew_all(
     }
     let before = proposal.ends().entered();
     for k in rows.len()..before {
-        take_out(proposal, between, k);
+        proposal.take_out(k);
     }
     let mut left = rows.len();
     for k in before..rows.len() {
-        let arc = arc_of(&rows[k], flow[k]);
-        if !add(proposal, between, k, &arc, &mut left) {
+        let arc = Arc::new(&rows[k], flow[k]);
+        if !proposal.add(k, &arc, &mut left) {
             return false;
         }
     }
@@ -562,8 +530,13 @@ fn renew_all(
         if k >= before.min(rows.len()) {
             continue;
         }
-        let arc = arc_of(&rows[k], flow[k]);
-        if !renew(proposal, between, k, &arc, &mut left) {
+        let arc = Arc::new(&rows[k], flow[k]);
+        if proposal.renew(k, &arc) {
+            continue;
+        }
+        // Another arc was in its place.
+        proposal.take_out(k);
+        if !proposal.add(k, &arc, &mut left) {
             return false;
         }
     }
@@ -625,7 +598,7 @@ fn write_flow(
 /// The flow that is wanted of an arc that has this flow.
 fn flow_of(proposal: &Proposal, k: usize, row: &ArcRow, flow: i64) -> i64 {
     if row.low <= row.cap {
-        proposal.wanted(k, &arc_of(row, flow))
+        proposal.wanted(k, &Arc::new(row, flow))
     } else {
         row.low
     }

@@ -54,7 +54,7 @@ fn note_beyond<const AHEAD: bool>(proposal: &Proposal, reach: &mut Reach, u: usi
     ensures { reach.new ≡ reach.old }
 {
     let potential = proposal.potential(u);
-    for link in proposal.ends_at(u).links {
+    for link in proposal.ends().at(u).links {
         let v = link.other as usize;
         let is_tight = proposal.reduced_cost::<AHEAD>(potential, link) == 0;
         if is_tight && link.room::<AHEAD>() > 0 && !reach.is_inside(v) {

@@ -23,7 +23,7 @@ enum Growth {
 }
 
 /// Grows a set from a node over tight residual arcs until it meets a node in deficit, to which it pushes, or holds more
-/// than they can carry, when the potentials of the set fall.
+/// than they can carry, when the potentials of the set fall. Where nothing can carry that, the node is left.
 pub fn grow<const AHEAD: bool>(
     proposal: &mut Proposal,
     ring: &mut Ring,
@@ -41,7 +41,12 @@ pub fn grow<const AHEAD: bool>(
 {
     match spread::<AHEAD>(proposal, sets, s, most) {
         Growth::Met(target) => push_back::<AHEAD>(proposal, &sets.reach, s, target),
-        Growth::Short => lower_set::<AHEAD>(proposal, ring, sets, s),
+        Growth::Short => {
+            let held = survey_set::<AHEAD>(proposal, sets);
+            if !lower_inside::<AHEAD>(proposal, ring, sets, held) {
+                ring.leave(s);
+            }
+        }
         Growth::Large => ring.leave(s),
     }
     sets.reach.clear();
@@ -64,7 +69,9 @@ fn spread<const AHEAD: bool>(proposal: &Proposal, sets: &mut Sets, s: usize, mos
         let Some((u, room)) = sets.reach.take_in() else {
             return Growth::Short;
         };
-        sets.count(proposal.ends_at(u).links.len());
+        sets.looks = sets
+            .looks
+            .saturating_add(proposal.ends().at(u).links.len() as u64);
         held = held.wrapping_add(proposal.excess::<AHEAD>(u));
         carried = carried.wrapping_sub(room);
         let found = look_on::<AHEAD>(proposal, &mut sets.reach, u);
@@ -87,7 +94,7 @@ fn begin<const AHEAD: bool>(proposal: &Proposal, tight: &Places, reach: &mut Rea
     let _first = reach.take_in();
     let mut carried: i64 = 0;
     for place in tight.listed() {
-        let Some(link) = proposal.link(*place) else {
+        let Some(link) = proposal.ends().link(*place) else {
             continue;
         };
         let room = link.room::<AHEAD>();
@@ -115,7 +122,7 @@ fn look_on<const AHEAD: bool>(proposal: &Proposal, reach: &mut Reach, u: usize) 
     ensures met { IfSome result.met (λ v. v < proposal.now) }
 {
     let potential = proposal.potential(u);
-    let ends = proposal.ends_at(u);
+    let ends = proposal.ends().at(u);
     let mut room: i64 = 0;
     for (k, link) in ends.links.iter().enumerate() {
         let more = link.room::<AHEAD>();
@@ -170,26 +177,9 @@ fn arc_to<const AHEAD: bool>(proposal: &Proposal, reach: &Reach, v: usize) -> Op
     requires reach { reach.now ≡ proposal.now }
     ensures { IfSome result (λ arc. arc.0 < proposal.now) }
 {
-    let link = proposal.link(reach.parent(v))?;
-    let opposite = proposal.link(link.opposite)?;
+    let link = proposal.ends().link(reach.parent(v))?;
+    let opposite = proposal.ends().link(link.opposite)?;
     Some((opposite.other as usize, link.room::<AHEAD>()))
-}
-
-/// Lowers the potentials of the set to where the residual arcs out of it can carry what lies there, and fills those that
-/// would be of negative reduced cost. Where none can, it leaves the node from which the set grew.
-fn lower_set<const AHEAD: bool>(proposal: &mut Proposal, ring: &mut Ring, sets: &mut Sets, s: usize)
-    requires node { s < proposal.old }
-    requires ring { ring.old ≡ proposal.old }
-    requires sets { sets.old.reach ≡ proposal.old }
-    requires few { proposal.old < 2 ^ 32 }
-    ensures proposal { proposal.new ≡ proposal.old }
-    ensures ring { ring.new ≡ ring.old }
-    ensures sets { sets.new.reach ≡ sets.old.reach }
-{
-    let held = survey_set::<AHEAD>(proposal, sets);
-    if !lower_inside::<AHEAD>(proposal, ring, sets, held) {
-        ring.leave(s);
-    }
 }
 
 /// Lowers the potentials of the set to where the residual arcs out of it, which are listed, can carry so much, and fills those
@@ -225,38 +215,34 @@ pub fn survey_set<const AHEAD: bool>(proposal: &Proposal, sets: &mut Sets) -> i6
 {
     sets.candidates.clear();
     let mut held: i64 = 0;
-    let mut looks: usize = 0;
     for u in sets.reach.inside() {
-        held = held.wrapping_add(proposal.excess::<AHEAD>(*u as usize));
-        let more = survey_out::<AHEAD>(proposal, &sets.reach, &mut sets.candidates, *u as usize);
-        looks = looks.saturating_add(more);
+        let u = *u as usize;
+        held = held.wrapping_add(proposal.excess::<AHEAD>(u));
+        let looks = proposal.ends().at(u).links.len() as u64;
+        sets.looks = sets.looks.saturating_add(looks);
+        survey_out::<AHEAD>(proposal, &sets.reach, &mut sets.candidates, u);
     }
-    sets.count(looks);
     held
 }
 
-/// Lists the residual arcs that lead from a node of the set out of it, and gives how many ends were looked at.
+/// Lists the residual arcs that lead from a node of the set out of it.
 fn survey_out<const AHEAD: bool>(
     proposal: &Proposal,
     reach: &Reach,
     candidates: &mut Candidates,
     u: usize,
-) -> usize
+)
     requires node { u < proposal.now }
     requires reach { reach.now ≡ proposal.now }
 {
     let potential = proposal.potential(u);
-    let ends = proposal.ends_at(u);
+    let ends = proposal.ends().at(u);
     for (k, link) in ends.links.iter().enumerate() {
         let room = link.room::<AHEAD>();
-        if room <= 0 || reach.is_inside(link.other as usize) {
-            continue;
+        if room > 0 && !reach.is_inside(link.other as usize) {
+            let reduced_cost = proposal.reduced_cost::<AHEAD>(potential, link);
+            let place = ends.first + k as u32;
+            candidates.add(Candidate::new(reduced_cost, place, room));
         }
-        candidates.add(Candidate::new(
-            proposal.reduced_cost::<AHEAD>(potential, link),
-            ends.first + k as u32,
-            room,
-        ));
     }
-    ends.links.len()
 }

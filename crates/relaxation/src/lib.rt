@@ -7,7 +7,6 @@
 //! none does.
 #![tactic(auto)]
 
-mod arcs;
 mod ascent;
 mod candidates;
 mod grow;

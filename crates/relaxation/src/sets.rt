@@ -37,11 +37,4 @@ impl Sets {
             looks: 0,
         })
     }
-
-    /// Counts looks at ends of arcs.
-    pub(crate) fn count(&mut self, looks: usize)
-        ensures { self.new.reach ≡ self.old.reach }
-    {
-        self.looks = self.looks.saturating_add(looks as u64);
-    }
 }

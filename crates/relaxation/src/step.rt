@@ -48,8 +48,8 @@ fn survey<const AHEAD: bool>(proposal: &Proposal, sets: &mut Sets, s: usize)
     sets.tight.clear();
     sets.candidates.clear();
     let potential = proposal.potential(s);
-    let ends = proposal.ends_at(s);
-    sets.count(ends.links.len());
+    let ends = proposal.ends().at(s);
+    sets.looks = sets.looks.saturating_add(ends.links.len() as u64);
     for (k, link) in ends.links.iter().enumerate() {
         let room = link.room::<AHEAD>();
         if room <= 0 || link.other as usize == s {
@@ -73,7 +73,7 @@ fn meet<const AHEAD: bool>(proposal: &mut Proposal, tight: &Places, s: usize) ->
 {
     let mut left: i64 = 0;
     for place in tight.listed() {
-        let Some(link) = proposal.link(*place) else {
+        let Some(link) = proposal.ends().link(*place) else {
             continue;
         };
         let room = link.room::<AHEAD>();
@@ -145,7 +145,7 @@ fn fill<const AHEAD: bool>(proposal: &mut Proposal, ring: &mut Ring, place: u32)
     ensures proposal { proposal.new ≡ proposal.old }
     ensures ring { ring.new ≡ ring.old }
 {
-    let Some(link) = proposal.link(place) else {
+    let Some(link) = proposal.ends().link(place) else {
         return;
     };
     proposal.push::<AHEAD>(place, link.room::<AHEAD>());
@@ -159,7 +159,7 @@ pub fn wake(proposal: &Proposal, ring: &mut Ring, v: usize)
     requires few { proposal.now < 2 ^ 32 }
     ensures { ring.new ≡ ring.old }
 {
-    if proposal.rests()[v] != 0 {
+    if proposal.rest(v) != 0 {
         ring.add(v);
     }
 }

@@ -9,11 +9,13 @@ mod arc;
 mod arcs;
 mod limits;
 mod link;
+mod order;
+mod places;
 mod span;
 mod table;
 
 pub use arc::Arc;
-pub use arcs::{ArcEnds, Moved};
+pub use arcs::ArcEnds;
 pub use limits::{COST_LIMIT, ROOM_LIMIT};
 pub use link::Link;
 pub use table::{Ends, ResidualEnds};

@@ -50,32 +50,30 @@ impl Link {
         i64::from(if AHEAD { self.entering } else { self.leaving })
     }
 
-    /// The end of an arc at its tail, where the other end has this place.
-    pub(crate) fn at_tail(arc: &Arc, opposite: u32) -> Link
+    /// The ends of an arc at its tail and at its head, which have these places.
+    #[inline(always)]
+    pub(crate) fn both_of(arc: &Arc, tail: u32, head: u32) -> (Link, Link)
         requires { IsInLimits arc.now }
-        ensures { result.other ≡ arc.now.head }
+        ensures tail { result.0.other ≡ arc.now.head }
+        ensures head { result.1.other ≡ arc.now.tail }
     {
-        Link {
+        let ahead = (arc.cap - arc.flow) as u32;
+        let back = (arc.flow - arc.low) as u32;
+        let at_tail = Link {
             other: arc.head,
-            opposite,
+            opposite: head,
             cost: arc.cost,
-            leaving: (arc.cap - arc.flow) as u32,
-            entering: (arc.flow - arc.low) as u32,
-        }
-    }
-
-    /// The end of an arc at its head.
-    pub(crate) fn at_head(arc: &Arc, opposite: u32) -> Link
-        requires { IsInLimits arc.now }
-        ensures { result.other ≡ arc.now.tail }
-    {
-        Link {
+            leaving: ahead,
+            entering: back,
+        };
+        let at_head = Link {
             other: arc.tail,
-            opposite,
+            opposite: tail,
             cost: -arc.cost,
-            leaving: (arc.flow - arc.low) as u32,
-            entering: (arc.cap - arc.flow) as u32,
-        }
+            leaving: back,
+            entering: ahead,
+        };
+        (at_tail, at_head)
     }
 
     /// The end where the other one has this place.

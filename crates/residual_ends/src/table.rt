@@ -17,6 +17,9 @@ pub struct ResidualEnds {
     /// Where the links of each node stand, one node behind the other.
     pub(crate) spans: Vec<Span>,
     pub(crate) links: Vec<Link>,
+    /// The place of the first end of each node that has not room both ways, once the ends are in order: its room is touched
+    /// only then.
+    pub(crate) borders: Vec<u32>,
     /// The number of the end at each place: 2k is the tail of arc k, and 2k + 1 its head.
     pub(crate) numbers: Vec<u32>,
     /// The place of the tail of each arc.
@@ -39,7 +42,7 @@ impl Model for ResidualEnds {
         × AreLinks (length e.spans.items) e.links.items };
 }
 
-/// The ends of arcs at a node: the place of the first, all of them, and their numbers.
+/// Ends of arcs at a node: the place of the first, all of them, and their numbers.
 #[derive(Clone, Copy)]
 pub struct Ends<'a> {
     pub first: u32,
@@ -62,11 +65,13 @@ impl ResidualEnds {
             vec![in alloc; Span::NONE; entries],
             vec![in alloc; Link::NONE; places],
         );
+        let borders = Vec::with_capacity(alloc, entries);
         let numbers = both(vec![in alloc; 0; places], vec![in alloc; 0; arcs]);
-        let ((spans, links), (numbers, tails)) = both(links, numbers)?;
+        let ((spans, links), (borders, (numbers, tails))) = both(links, both(borders, numbers))?;
         Ok(ResidualEnds {
             spans,
             links,
+            borders,
             numbers,
             tails,
             entered: 0,

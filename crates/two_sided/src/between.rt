@@ -2,12 +2,10 @@
 
 ghost use Rattle.std.specs.Prelude.{◌≡◌, ◌<◌, ◌^◌, ℕ, IfOk, IfSome, IsTrue, length};
 
-use crate::free::FreeEnds;
 use crate::front::{Front, Meeting};
 use crate::length::FAR;
 use containers::{Nodes, Noted, Places, both};
 use relaxation::Proposal;
-use residual_ends::Moved;
 use std::alloc::{AllocError, Global};
 use std::marker::Model;
 
@@ -70,7 +68,8 @@ pub struct Between {
     /// The places of the arcs of the path, each as the front sees it that came by it.
     path_ahead: Places,
     path_behind: Places,
-    free: FreeEnds,
+    /// The arcs of both.
+    arcs: Places,
 }
 
 impl Model for Between {
@@ -83,18 +82,16 @@ impl Model for Between {
     ghost invariant = { λ b. (b.behind ≡ b.ahead)
         × (b.sources ≡ b.ahead)
         × (b.sinks ≡ b.ahead)
-        × (b.free ≡ b.ahead)
         × (b.ahead < 2 ^ 31) };
 }
 
 impl Between {
-    /// Room for a search among so many entries of nodes, and so many arcs, of which nothing is loaded.
+    /// Room for a search among so many entries of nodes, of which nothing is loaded.
     ///
     /// # Errors
     /// Memory for a table was refused.
-    pub fn new(alloc: Global, entries: usize, arcs: usize) -> Result<Between, AllocError>
-        requires entries { entries < 2 ^ 31 }
-        requires arcs { arcs < 2 ^ 31 }
+    pub fn new(alloc: Global, entries: usize) -> Result<Between, AllocError>
+        requires { entries < 2 ^ 31 }
     {
         let fronts = both(Front::new(alloc, entries), Front::new(alloc, entries));
         let roots = both(
@@ -102,10 +99,10 @@ impl Between {
             Nodes::reserve(alloc, entries),
         );
         let paths = both(Places::new(alloc, entries), Places::new(alloc, entries));
-        let free = FreeEnds::new(alloc, entries, arcs);
-        let (((ahead, behind), (sources, sinks)), ((path_ahead, path_behind), free)) = both(
+        let arcs = Places::new(alloc, entries);
+        let (((ahead, behind), (sources, sinks)), ((path_ahead, path_behind), arcs)) = both(
             both(fronts, roots),
-            both(paths, free),
+            both(paths, arcs),
         )?;
         Ok(Between {
             ahead,
@@ -114,7 +111,7 @@ impl Between {
             sinks,
             path_ahead,
             path_behind,
-            free,
+            arcs,
         })
     }
 
@@ -125,13 +122,14 @@ impl Between {
         self.ahead.entries()
     }
 
-    /// Takes over which arcs of a proposal have room both ways, if there is room for as many nodes as it has.
-    pub fn load(&mut self, proposal: &Proposal)
-        requires { proposal.now < 2 ^ 31 }
+    /// Gets ready for searches on a proposal, of which it puts the ends in order, if there is room for as many nodes as it has.
+    pub fn load(&mut self, proposal: &mut Proposal)
+        requires { proposal.old < 2 ^ 31 }
+        ensures { proposal.new ≡ proposal.old }
     {
         let entries = proposal.entries();
         if self.entries() == entries || self.open(entries) {
-            self.free.load(proposal);
+            proposal.put_in_order();
         }
     }
 
@@ -140,39 +138,21 @@ impl Between {
         requires { entries < 2 ^ 31 }
         ensures { IsTrue result → self.new ≡ entries }
     {
-        if self.ahead.open(entries) && self.behind.open(entries) && self.free.open(entries) {
+        if self.ahead.open(entries) && self.behind.open(entries) {
             self.sources.begin(entries);
             self.sinks.begin(entries);
             return true;
         }
         self.ahead.close();
         self.behind.close();
-        self.free.close();
         self.sources.begin(0);
         self.sinks.begin(0);
         false
     }
 
-    /// Takes over whether an arc of a proposal has room both ways.
-    pub fn renew(&mut self, proposal: &Proposal, k: usize)
-        requires { proposal.now ≡ self.old }
-        ensures { self.new ≡ self.old }
-    {
-        self.free.renew(proposal, proposal.ends().tail_of(k));
-    }
-
-    /// Takes over which end of an arc got another place of a proposal, if one did.
-    pub fn follow(&mut self, moved: Option<Moved>)
-        ensures { self.new ≡ self.old }
-    {
-        if let Some(moved) = moved {
-            self.free.follow(moved);
-        }
-    }
-
     /// Pushes along shortest paths until one side is empty or the sides do not meet, or else until the readings are used
-    /// up; says whether it came to the former, and notes the arcs whose flow it moves. Which arcs have room both ways was
-    /// taken over before, and the nodes out of balance are listed.
+    /// up; says whether it came to the former, and notes the arcs whose flow it moves. The ends are in
+    /// order, and the nodes out of balance are listed.
     #[inline(never)] // a name of its own in the program: `bench/count` counts its calls
     pub fn push_between(
         &mut self,
@@ -363,13 +343,7 @@ impl Between {
     {
         self.path_ahead.clear();
         self.path_behind.clear();
-        let meeting = meet(
-            &mut self.ahead,
-            &mut self.behind,
-            proposal,
-            &self.free,
-            Meeting::NONE,
-        );
+        let meeting = meet(&mut self.ahead, &mut self.behind, proposal, Meeting::NONE);
         if meeting.length < FAR && meeting.node < self.ahead.entries() {
             Some(meeting)
         } else {
@@ -398,22 +372,18 @@ impl Between {
         let amount = proposal.excess::<true>(s).min(proposal.excess::<false>(t));
         let amount = room_along::<true>(proposal, &self.path_ahead, amount);
         let amount = room_along::<false>(proposal, &self.path_behind, amount);
-        draw_along::<true>(proposal, &mut self.free, noted, &self.path_ahead, amount);
-        draw_along::<false>(proposal, &mut self.free, noted, &self.path_behind, amount);
+        self.arcs.clear();
+        draw_along::<true>(proposal, &mut self.arcs, &self.path_ahead, amount);
+        draw_along::<false>(proposal, &mut self.arcs, &self.path_behind, amount);
         proposal.carry::<true>(s, t, amount);
         self.ahead.shorten(meeting.length);
         self.behind.shorten(meeting.length);
-        forget_along(
+        follow(
             &mut self.ahead,
             &mut self.behind,
             proposal,
-            &self.path_ahead,
-        );
-        forget_along(
-            &mut self.ahead,
-            &mut self.behind,
-            proposal,
-            &self.path_behind,
+            noted,
+            &self.arcs,
         );
     }
 }
@@ -444,16 +414,9 @@ fn begin_all<const AHEAD: bool>(front: &mut Front, roots: &Nodes, proposal: &Pro
 }
 
 /// Searches from both sides until no path across can be shorter than the best one, which is this one at first.
-fn meet(
-    ahead: &mut Front,
-    behind: &mut Front,
-    proposal: &Proposal,
-    free: &FreeEnds,
-    meeting: Meeting,
-) -> Meeting
+fn meet(ahead: &mut Front, behind: &mut Front, proposal: &Proposal, meeting: Meeting) -> Meeting
     requires ahead { ahead.old ≡ proposal.now }
     requires behind { behind.old ≡ proposal.now }
-    requires free { free.now ≡ proposal.now }
     ensures ahead { ahead.new ≡ ahead.old }
     ensures behind { behind.new ≡ behind.old }
 {
@@ -463,9 +426,24 @@ fn meet(
         if is_best(ahead, behind, meeting) {
             break;
         }
-        meeting = go_on(ahead, behind, proposal, free, meeting);
+        meeting = go_on(ahead, behind, proposal, meeting);
     }
     meeting
+}
+
+/// Goes on by one node on one side.
+#[inline(always)]
+fn go_on(ahead: &mut Front, behind: &mut Front, proposal: &Proposal, meeting: Meeting) -> Meeting
+    requires ahead { ahead.old ≡ proposal.now }
+    requires behind { behind.old ≡ proposal.now }
+    ensures ahead { ahead.new ≡ ahead.old }
+    ensures behind { behind.new ≡ behind.old }
+{
+    if goes_ahead(ahead, behind) {
+        ahead.step::<true>(proposal, behind, meeting)
+    } else {
+        behind.step::<false>(proposal, ahead, meeting)
+    }
 }
 
 /// Whether no path across can be shorter than the best one so far.
@@ -478,28 +456,6 @@ fn is_best(ahead: &Front, behind: &Front, meeting: Meeting) -> bool {
         return true;
     };
     near + beyond >= meeting.length
-}
-
-/// Goes on by one node on one side.
-#[inline(always)]
-fn go_on(
-    ahead: &mut Front,
-    behind: &mut Front,
-    proposal: &Proposal,
-    free: &FreeEnds,
-    meeting: Meeting,
-) -> Meeting
-    requires ahead { ahead.old ≡ proposal.now }
-    requires behind { behind.old ≡ proposal.now }
-    requires free { free.now ≡ proposal.now }
-    ensures ahead { ahead.new ≡ ahead.old }
-    ensures behind { behind.new ≡ behind.old }
-{
-    if goes_ahead(ahead, behind) {
-        ahead.step::<true>(proposal, free, behind, meeting)
-    } else {
-        behind.step::<false>(proposal, free, ahead, meeting)
-    }
 }
 
 /// Which side goes on: that which has read less; where no node waits whose free ends were not read, that which has fewer
@@ -536,47 +492,52 @@ fn lower_all<const AHEAD: bool>(front: &Front, proposal: &mut Proposal, far: i64
 fn room_along<const AHEAD: bool>(proposal: &Proposal, path: &Places, amount: i64) -> i64 {
     let mut amount = amount;
     for place in path.listed() {
-        if let Some(link) = proposal.link(*place) {
+        if let Some(link) = proposal.ends().link(*place) {
             amount = amount.min(link.room_back::<AHEAD>());
         }
     }
     amount
 }
 
-/// Moves flow along a path, and notes its arcs.
+/// Moves flow along a path, and lists its arcs.
 fn draw_along<const AHEAD: bool>(
     proposal: &mut Proposal,
-    free: &mut FreeEnds,
-    noted: &mut Noted,
+    arcs: &mut Places,
     path: &Places,
     amount: i64,
 )
-    requires { free.old ≡ proposal.old }
-    ensures proposal { proposal.new ≡ proposal.old }
-    ensures free { free.new ≡ free.old }
+    ensures { proposal.new ≡ proposal.old }
 {
     for place in path.listed() {
         proposal.draw::<AHEAD>(*place, amount);
-        free.renew(proposal, *place);
-        noted.note(proposal.ends().number_at(*place) / 2);
+        arcs.add(proposal.ends().number_at(*place) / 2);
     }
 }
 
-/// Forgets how far the ends at the nodes of a path lead on: they changed.
-fn forget_along(ahead: &mut Front, behind: &mut Front, proposal: &Proposal, path: &Places)
-    requires ahead { ahead.old ≡ proposal.now }
-    requires behind { behind.old ≡ proposal.now }
+/// Takes over that these arcs have another room: notes them, puts their ends in order, and forgets how far the ends at their
+/// nodes lead on.
+fn follow(
+    ahead: &mut Front,
+    behind: &mut Front,
+    proposal: &mut Proposal,
+    noted: &mut Noted,
+    arcs: &Places,
+)
+    requires ahead { ahead.old ≡ proposal.old }
+    requires behind { behind.old ≡ proposal.old }
     ensures ahead { ahead.new ≡ ahead.old }
     ensures behind { behind.new ≡ behind.old }
+    ensures proposal { proposal.new ≡ proposal.old }
 {
-    for place in path.listed() {
-        if let Some(near) = proposal.link(*place) {
-            ahead.forget_margin(near.other as usize);
-            behind.forget_margin(near.other as usize);
-            if let Some(far) = proposal.link(near.opposite) {
-                ahead.forget_margin(far.other as usize);
-                behind.forget_margin(far.other as usize);
-            }
+    for k in arcs.listed() {
+        noted.note(*k);
+        proposal.put_arc_in_order(*k as usize);
+        if let Some(ends) = proposal.ends().ends_of(*k as usize) {
+            let (tail, head) = (ends.head.other as usize, ends.tail.other as usize);
+            ahead.forget_margin(tail);
+            ahead.forget_margin(head);
+            behind.forget_margin(tail);
+            behind.forget_margin(head);
         }
     }
 }

@@ -4,12 +4,12 @@ ghost use Rattle.std.specs.Prelude.{◌≡◌, ◌<◌, ◌^◌, ℕ, IfOk, IfSo
 ghost use Rattle.relaxation.specs.Limits.{IsWithin, rest_limit};
 ghost use Rattle.two_sided.specs.Keys.{key_limit};
 
-use crate::free::{FreeEnd, FreeEnds};
 use crate::frontier::{Frontier, State};
 use crate::late::Late;
 use crate::length::{FAR, NO_PLACE};
 use containers::{Nodes, Places, both};
 use relaxation::Proposal;
+use residual_ends::Link;
 use std::alloc::{AllocError, Global};
 use std::marker::Model;
 
@@ -103,10 +103,11 @@ pub struct Front {
     /// Settled nodes whose other ends all lead far: these are read once the search has come half as far, which is
     /// seldom.
     late: Late,
-    /// Of how many settled nodes the free ends were read; at the last one some may be left, from `free_end` on.
+    /// Of how many settled nodes the free ends were read, those with room both ways; at the last one some may be left.
     spread: usize,
-    /// The free end that is read next, if there are some left of a node.
-    free_end: u32,
+    /// The place of the free end of that node that is read next, and the place behind the last one.
+    next_free: u32,
+    free_until: u32,
     /// Of how many settled nodes the other ends were read.
     read: usize,
     /// The key of the node that was settled last.
@@ -160,7 +161,8 @@ impl Front {
             margins,
             late,
             spread: 0,
-            free_end: NO_PLACE,
+            next_free: 0,
+            free_until: 0,
             read: 0,
             last: 0,
             spent: false,
@@ -219,7 +221,8 @@ impl Front {
         self.frontier.forget();
         self.late.clear();
         self.spread = 0;
-        self.free_end = NO_PLACE;
+        self.next_free = 0;
+        self.free_until = 0;
         self.read = 0;
         self.last = 0;
         self.spent = false;
@@ -252,7 +255,7 @@ impl Front {
     /// Whether a node waits whose free ends were not all read.
     #[inline(always)]
     pub fn has_waiting(&self) -> bool {
-        self.free_end != NO_PLACE || self.spread < self.settled().listed().len()
+        self.next_free < self.free_until || self.spread < self.settled().listed().len()
     }
 
     /// Of how many settled nodes the other ends were not read.
@@ -289,39 +292,26 @@ impl Front {
     pub fn step<const AHEAD: bool>(
         &mut self,
         proposal: &Proposal,
-        free: &FreeEnds,
         other: &Front,
         meeting: Meeting,
     ) -> Meeting
         requires proposal { proposal.now ≡ self.old }
-        requires free { free.now ≡ self.old }
         requires other { other.now ≡ self.old }
         ensures { self.new ≡ self.old }
     {
         if self.has_waiting() {
-            return self.read_free(free, other, meeting);
+            return self.read_free(proposal, other, meeting);
         }
-        match self.take_due(free) {
-            Some(u) => self.read_others::<AHEAD>(proposal, free, other, u, meeting),
-            None => meeting,
-        }
-    }
-
-    /// Takes the next settled node whose other ends are to be read now, if there is one.
-    #[inline(always)]
-    fn take_due(&mut self, free: &FreeEnds) -> Option<usize>
-        requires { free.now ≡ self.old }
-        ensures kept { self.new ≡ self.old }
-        ensures node { IfSome result (λ v. v < self.old) }
-    {
-        let Some(u) = self.frontier.take() else {
-            return self.advance();
+        let due = match self.frontier.take() {
+            Some(u) => {
+                self.read = self.read.saturating_add(1);
+                if self.is_put_off(u) { None } else { Some(u) }
+            }
+            None => self.advance(),
         };
-        self.read = self.read.saturating_add(1);
-        if free.are_whole() && self.is_put_off(u) {
-            None
-        } else {
-            Some(u)
+        match due {
+            Some(u) => self.read_others::<AHEAD>(proposal, other, u, meeting),
+            None => meeting,
         }
     }
 
@@ -373,33 +363,37 @@ impl Front {
 
     /// Reads some ends of arcs that have room both ways, at the settled nodes in turn. To take a node counts as a read: it takes
     /// as long.
-    fn read_free(&mut self, free: &FreeEnds, other: &Front, meeting: Meeting) -> Meeting
-        requires free { free.now ≡ self.old }
+    fn read_free(&mut self, proposal: &Proposal, other: &Front, meeting: Meeting) -> Meeting
+        requires proposal { proposal.now ≡ self.old }
         requires other { other.now ≡ self.old }
         ensures { self.new ≡ self.old }
     {
         let mut meeting = meeting;
         // Held here, and not in the tables, which the loop writes: so they stay in registers.
-        let mut next = self.free_end;
+        let ends = proposal.ends();
+        let mut next = self.next_free;
+        let mut until = self.free_until;
         let mut spread = self.spread;
         let mut reads: usize = 0;
         while reads < SOME_ENDS {
-            match free.at(next) {
-                Some(end) => {
-                    meeting = self.spread_to(&end, other, meeting);
-                    next = end.next;
+            if next < until {
+                if let Some(link) = ends.link(next) {
+                    meeting = self.spread_to(&link, other, meeting);
                 }
-                None => {
-                    let Some(u) = self.settled().at(spread) else {
-                        break;
-                    };
-                    next = FreeEnds::first(u);
-                    spread = spread.saturating_add(1);
-                }
+                next = next.saturating_add(1);
+            } else {
+                let Some(u) = self.settled().at(spread) else {
+                    break;
+                };
+                let free = ends.free_places(u);
+                next = free.0;
+                until = free.1;
+                spread = spread.saturating_add(1);
             }
             reads += 1;
         }
-        self.free_end = next;
+        self.next_free = next;
+        self.free_until = until;
         self.spread = spread;
         self.reads = self.reads.saturating_add(reads as u64);
         meeting
@@ -408,18 +402,16 @@ impl Front {
     /// Settles the node at a free end, as far off as the search has come: not where it is settled already, or where a
     /// path across is known that is no longer than that.
     #[inline(always)]
-    fn spread_to(&mut self, end: &FreeEnd, other: &Front, meeting: Meeting) -> Meeting
-        requires { other.now ≡ self.old }
+    fn spread_to(&mut self, link: &Link, other: &Front, meeting: Meeting) -> Meeting
+        requires node { link.now.other < self.old }
+        requires other { other.now ≡ self.old }
         ensures { self.new ≡ self.old }
     {
-        let v = end.other as usize;
-        if v >= self.labels.len()
-            || self.frontier.state(v) == State::Settled
-            || meeting.length <= self.last
-        {
+        let v = link.other as usize;
+        if self.frontier.state(v) == State::Settled || meeting.length <= self.last {
             return meeting;
         }
-        self.settle_at(v, end.opposite);
+        self.settle_at(v, link.opposite);
         meeting.or_over(v, self.last, other.key(v))
     }
 
@@ -441,7 +433,6 @@ impl Front {
     fn read_others<const AHEAD: bool>(
         &mut self,
         proposal: &Proposal,
-        free: &FreeEnds,
         other: &Front,
         u: usize,
         meeting: Meeting,
@@ -454,12 +445,11 @@ impl Front {
         let mut meeting = meeting;
         let key = self.key(u);
         let potential = proposal.potential(u);
-        let are_read = free.are_whole();
-        let links = proposal.ends_at(u).links;
+        let links = proposal.ends().others_at(u).links;
         self.reads = self.reads.saturating_add(links.len() as u64);
         let mut least = FAR;
         for link in links {
-            if link.room::<AHEAD>() > 0 && !(are_read && link.room_back::<AHEAD>() > 0) {
+            if link.room::<AHEAD>() > 0 {
                 let reduced_cost = proposal.reduced_cost::<AHEAD>(potential, link);
                 least = least.min(reduced_cost);
                 let label = label_beyond(key, reduced_cost, link.opposite);
@@ -520,7 +510,7 @@ impl Front {
         let mut u = v;
         for _ in 0..self.labels.len() {
             let place = self.labels[u].parent;
-            let Some(link) = proposal.link(place) else {
+            let Some(link) = proposal.ends().link(place) else {
                 break;
             };
             path.add(place);
@@ -538,7 +528,7 @@ impl Front {
         let mut u = v;
         for _ in 0..self.labels.len() {
             self.mark(u, walked);
-            let Some(link) = proposal.link(self.labels[u].parent) else {
+            let Some(link) = proposal.ends().link(self.labels[u].parent) else {
                 break;
             };
             u = link.other as usize;
@@ -571,7 +561,7 @@ impl Front {
         let mut last = v;
         let mut u = v;
         for _ in 0..self.labels.len() {
-            let Some(link) = proposal.link(self.labels[u].parent) else {
+            let Some(link) = proposal.ends().link(self.labels[u].parent) else {
                 break;
             };
             u = link.other as usize;

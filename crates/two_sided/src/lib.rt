@@ -6,7 +6,6 @@
 #![tactic(auto)]
 
 mod between;
-mod free;
 mod front;
 mod frontier;
 mod late;
