@@ -9,7 +9,7 @@ use Rattle.network.specs.declared.CutForm.{CutForm}
 use Rattle.network.specs.declared.CutForm.TheVariants.{Surplus, Shortfall}
 use Rattle.network.specs.Flow.{arcs_sum, nodes_sum, MinCost, crosses, outside, supply_of}
 use Rattle.network.specs.Cut.{arc_part, cut_value}
-use Rattle.network.specs.Instance.{Demand, Supplies, Terminals, Sides, return_arc, return_arc_of, reduced_arcs}
+use Rattle.network.specs.Instance.{Demand, Terminals, return_arc, return_arc_of, reduced_arcs}
 use Rattle.network.proofs.IntegerAlgebra.{linear}
 use Rattle.network.proofs.RunningSums.{abs-add}
 
@@ -48,11 +48,10 @@ cut_value_is Shortfall I set =
 -- the return arc, where there is one, is one more arc
 pub reduced_arcs_sum : (f : ArcRow → ℤ) (D : Demand) (arcs : List ArcRow) (arc : ArcRow) → Some arc ≡ return_arc_of D
     → (arcs_sum f (reduced_arcs D arcs) ≡ f arc +ℤ arcs_sum f arcs) × (unsigned_abs arc.low + unsigned_abs arc.cap ≤ unsigned_abs RETURN_CAP)
-reduced_arcs_sum f (Supplies supplies) arcs arc is = absurd (cc)
 reduced_arcs_sum f (Terminals source sink) arcs arc is =
     let same : arc ≡ return_arc source sink = cc in
     rw same (refl, omega arith)
-reduced_arcs_sum f (Sides marks) arcs arc is = absurd (cc)
+reduced_arcs_sum f _ arcs arc is = absurd (cc)
 
 pub surplus_from : (form : CutForm) (I : MinCost) (set : ℕ → Bool) (supply part : ℤ) → form ≡ Surplus → supply ≡ supply_of I set → part ≡ arcs_sum (arc_part form set) I.arcs → supply +ℤ part ≡ cut_value form I set
 surplus_from Surplus I set supply part is s p = let v = cut_value_is Surplus I set in omega (arith, linear)

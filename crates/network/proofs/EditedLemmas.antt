@@ -73,8 +73,7 @@ fits_cap (Sides marks) k cap row has fits = absurd (false≢true has)
 
 fits_low : (D : Demand) (k : ℕ) (low : ℤ) (row : ArcRow) → has_edit (kind_of D) (Low k low) ≡ true → ArcFits D (record row { low = low })
 fits_low (Supplies supplies) k low row has = tt
-fits_low (Terminals source sink) k low row has = absurd (false≢true has)
-fits_low (Sides marks) k low row has = absurd (false≢true has)
+fits_low _ k low row has = absurd (false≢true has)
 
 fits_cost : (D : Demand) (k : ℕ) (cost : ℤ) (row : ArcRow) → has_edit (kind_of D) (Cost k cost) ≡ true → ArcFits D row → ArcFits D (record row { cost = cost })
 fits_cost (Supplies supplies) k cost row has fits = tt
@@ -97,8 +96,7 @@ lawful_supply I (Supplies supplies) v value has within lawful = record {
   count = lawful.count;
   room = lawful.room;
 }
-lawful_supply I (Terminals source sink) v value has within lawful = absurd (false≢true has)
-lawful_supply I (Sides marks) v value has within lawful = absurd (false≢true has)
+lawful_supply I _ v value has within lawful = absurd (false≢true has)
 
 fits_new : (D : Demand) (row : ArcRow) → pos 0 ≤ℤ row.low → suits_kind (kind_of D) row.low row.cap row.cost ≡ true → is_across D row.tail row.head ≡ true → ArcFits D row
 fits_new (Supplies supplies) row low suits across = tt

@@ -11,7 +11,7 @@ use Rattle.dimacs_text.specs.Lawful.{IsNode}
 use Rattle.network.specs.declared.refusal.EditRefusal.{EditRefusal}
 use Rattle.network.specs.declared.refusal.EditRefusal.TheVariants.{OutOfRange, NoSuchNode, LowAboveCap, NotAcrossSides, TableFull, NotForKind}
 use Rattle.network.specs.Edited.{row_or, with_arc, edited, edited_by, tried, has_edit, has_room, is_across, is_new_row, is_node}
-use Rattle.network.specs.Instance.{Demand, Supplies, Terminals, Sides, Instance, arc_at, kind_of, with_supply}
+use Rattle.network.specs.Instance.{Demand, Supplies, Instance, arc_at, kind_of, with_supply}
 use Rattle.network.proofs.EndLemmas.{no_arc}
 use Rattle.network.proofs.EditedLemmas.{demand_ok, numbered_ok, done_as}
 
@@ -70,8 +70,7 @@ at_row I after k change f ends next e = by (arc_at I.arcs k) refl e
 
 supply_for_min : (D : Demand) (v : ℕ) (value : ℤ) → has_edit (kind_of D) (Supply v value) ≡ true → kind_of D ≡ Min
 supply_for_min (Supplies supplies) v value has = refl
-supply_for_min (Terminals source sink) v value has = absurd (false≢true has)
-supply_for_min (Sides marks) v value has = absurd (false≢true has)
+supply_for_min _ v value has = absurd (false≢true has)
 
 changed_by : (I : Instance) (edit : Edit) (after : Instance) → has_edit (kind_of I.demand) edit ≡ true → edited_by I edit ≡ Ok after → IsChangedBy edit I after
 changed_by I (Cap k cap) after has e =

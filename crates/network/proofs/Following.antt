@@ -14,7 +14,7 @@ use Rattle.network.specs.declared.refusal.EditRefusal.TheVariants.{OutOfRange, N
 use Rattle.dimacs_lines.specs.Checks.{numbered}
 use Rattle.network.specs.Refusal.{number_of}
 use Rattle.network.specs.Edited.{EndsFit, SharesFrame, changed_if, count_after, edited, edited_all, edited_by, has_edit, has_room, is_across, is_new_row, is_node, outcome, row_after, row_or, tried, with_arc}
-use Rattle.network.specs.Instance.{Demand, Supplies, Terminals, Sides, Instance, IsLawful, arc_at, kind_of, with_supply}
+use Rattle.network.specs.Instance.{Demand, Supplies, Instance, IsLawful, arc_at, kind_of, with_supply}
 use Rattle.network.proofs.EndLinks.{slice_get-set_other}
 use Rattle.network.proofs.EditedAll.{first_made, edited_one, edited_more, refused_more, edited_all-lawful}
 use Rattle.network.proofs.EditedShape.{done_is}
@@ -50,9 +50,8 @@ pushed_last (arc ∷ arcs) row = pushed_last arcs row
 
 pushed_other : (arcs : List ArcRow) (k : ℕ) (row : ArcRow) → k ≢ length arcs → slice_get (arcs ++ row ∷ []) k ≡ slice_get arcs k
 pushed_other [] zero row ne = absurd (ne refl)
-pushed_other [] (suc k) row ne = refl
-pushed_other (arc ∷ arcs) zero row ne = refl
 pushed_other (arc ∷ arcs) (suc k) row ne = pushed_other arcs k row (λ e. ne (ap suc e))
+pushed_other _ _ row ne = refl
 
 row_pushed : (arcs : List ArcRow) (k : ℕ) (row : ArcRow) → (if length arcs + 1 == k then Some row else arc_at arcs k) ≡ arc_at (arcs ++ row ∷ []) k
 row_pushed arcs zero row = rw (ne_eqb (length arcs + 1) 0 (λ e. omega (arith, e))) refl
@@ -85,8 +84,7 @@ at_row I after j change f next e = by (arc_at I.arcs j) refl e
 
 across_supply : (D : Demand) (v : ℕ) (value : ℤ) → (kind_of (with_supply D v value) ≡ kind_of D) × ((tail head : ℕ) → is_across (with_supply D v value) tail head ≡ is_across D tail head)
 across_supply (Supplies supplies) v value = (refl, λ tail head. refl)
-across_supply (Terminals source sink) v value = (refl, λ tail head. refl)
-across_supply (Sides marks) v value = (refl, λ tail head. refl)
+across_supply _ v value = (refl, λ tail head. refl)
 
 by_edit : (I : Instance) (edit : Edit) (after : Instance) → edited_by I edit ≡ Ok after → Follows edit I after
 by_edit I (Cap j most) after e =
@@ -125,10 +123,6 @@ pub follows : (I : Instance) (edit : Edit) (after : Instance) → edited I edit 
 follows I edit after e = by_edit I edit after (edit_is I edit after e)
 
 ends_by : (I : Instance) (edit : Edit) (after : Instance) → IsLawful I → edited_by I edit ≡ Ok after → EndsFit edit
-ends_by I (Cap j most) after lawful e = tt
-ends_by I (Low j low) after lawful e = tt
-ends_by I (Cost j cost) after lawful e = tt
-ends_by I (Supply v value) after lawful e = tt
 ends_by I (Add tail head low most cost) after lawful e =
     let range = demand_ok (is_new_row (kind_of I.demand) low most cost) OutOfRange _ after e in
     let nodes = demand_ok (is_node I.nodes tail && is_node I.nodes head) NoSuchNode _ after range.1 in
@@ -137,7 +131,7 @@ ends_by I (Add tail head low most cost) after lawful e =
     let at_tail = (node_from_test I.nodes tail ends.0).1 in
     let at_head = (node_from_test I.nodes head ends.1).1 in
     (omega (arith, few, at_tail), omega (arith, few, at_head))
-ends_by I (Close j) after lawful e = tt
+ends_by I _ after lawful e = tt
 
 pub ends_fit : (I : Instance) (edit : Edit) (after : Instance) → IsLawful I → edited I edit ≡ Ok after → EndsFit edit
 ends_fit I edit after lawful e = ends_by I edit after lawful (edit_is I edit after e)

@@ -51,8 +51,7 @@ lawful_set nodes goal supplies arcs room k row lawful limits fits = record {
 pub demand_set : (goal : Goal) (supplies : List ℤ) (v : ℕ) (x : ℤ) → kind_of (demand_by goal supplies) ≡ Min
     → demand_by goal (set supplies (v - 1) x) ≡ with_supply (demand_by goal supplies) v x
 demand_set LeastCost supplies v x kind = refl
-demand_set (GreatestFlow source sink) supplies v x kind = cc
-demand_set Assignment supplies v x kind = cc
+demand_set _ supplies v x kind = cc
 
 fits_set : (nodes : ℕ) (goal : Goal) (supplies : List ℤ) (k : ℕ) (x : ℤ) → kind_of (demand_by goal supplies) ≡ Min → IsWithin SUPPLY_LIMIT x
     → DemandFits nodes (demand_by goal supplies) → DemandFits nodes (demand_by goal (set supplies k x))
@@ -63,19 +62,16 @@ fits_set nodes Assignment supplies k x kind within fits = absurd (cc kind)
 supplies_set : (goal : Goal) (supplies : List ℤ) (k v : ℕ) (x : ℤ) → kind_of (demand_by goal supplies) ≡ Min
     → at_node (set supplies k x) v ≡ reduced_supply (demand_by goal (set supplies k x)) v
 supplies_set LeastCost supplies k v x kind = refl
-supplies_set (GreatestFlow source sink) supplies k v x kind = cc
-supplies_set Assignment supplies k v x kind = cc
+supplies_set _ supplies k v x kind = cc
 
 rows_set : (goal : Goal) (supplies : List ℤ) (k : ℕ) (x : ℤ) (row : ArcRow) → kind_of (demand_by goal supplies) ≡ Min → ArcFits (demand_by goal (set supplies k x)) row
 rows_set LeastCost supplies k x row kind = tt
-rows_set (GreatestFlow source sink) supplies k x row kind = absurd (cc kind)
-rows_set Assignment supplies k x row kind = absurd (cc kind)
+rows_set _ supplies k x row kind = absurd (cc kind)
 
 -- other supplies leave the rows
 reduced_supplied : (goal : Goal) (supplies : List ℤ) (k : ℕ) (x : ℤ) (arcs : List ArcRow) → reduced_arcs (demand_by goal supplies) arcs ≡ reduced_arcs (demand_by goal (set supplies k x)) arcs
 reduced_supplied LeastCost supplies k x arcs = refl
-reduced_supplied (GreatestFlow source sink) supplies k x arcs = refl
-reduced_supplied Assignment supplies k x arcs = refl
+reduced_supplied _ supplies k x arcs = refl
 
 pub sound_supply : (nodes : ℕ) (goal : Goal) (supplies : List ℤ) (rows : List ArcRow) (room : ℕ) (ends next : List (Option ℕ)) (rows_room next_room k : ℕ) (x : ℤ)
     → kind_of (demand_by goal supplies) ≡ Min → IsWithin SUPPLY_LIMIT x → IsSound nodes goal supplies rows room ends next rows_room next_room
