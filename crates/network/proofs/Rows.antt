@@ -1,6 +1,5 @@
 -- The rows of a network: the return arc, where there is one, then the arcs.
-use Rattle.std.proofs.Common.{◌≡◌, ℕ, zero, suc, ◌+◌, ◌-◌, ◌*◌, ◌<◌, ◌≤◌, ℤ, List, [], ◌∷◌, ◌++◌, All, Option, replicate, None, Some, length, set, slice_index_or, refl, sym, ap, subst, ◌∙◌, arith}
-use Rattle.std.specs.Prelude.{SomeIff}
+use Rattle.std.proofs.Common.{◌≡◌, ℕ, suc, ◌+◌, ◌-◌, ◌*◌, ◌<◌, ◌≤◌, ℤ, List, [], ◌∷◌, ◌++◌, All, Option, replicate, None, Some, length, set, slice_index_or, refl, sym, ap, subst, ◌∙◌, arith}
 use Rattle.std.proofs.lemmas.List.{get_or_default, get_or-replicate, length-map, length-replicate, map-set}
 use Rattle.std.proofs.Math.ListN.{get_or-map}
 use Rattle.dimacs_text.specs.declared.problem.ArcRow.{ArcRow}
@@ -19,14 +18,6 @@ rows_counted _ arcs = omega arith
 
 -- ---- by what is asked for
 
-pub front_is : (goal : Goal) (supplies : List ℤ) → front goal ≡ return_arcs (demand_by goal supplies)
-front_is LeastCost supplies = refl
-front_is _ supplies = refl
-
-pub front_few : (goal : Goal) → front goal ≤ 1
-front_few LeastCost = omega arith
-front_few _ = omega arith
-
 -- the rows of these arcs
 pub begun : (goal : Goal) (supplies : List ℤ) (arcs : List ArcRow) → return_rows goal ++ arcs ≡ reduced_arcs (demand_by goal supplies) arcs
 begun LeastCost supplies arcs = refl
@@ -43,9 +34,6 @@ module _ (goal : Goal) (supplies : List ℤ) (rows arcs : List ArcRow) (are : ro
 
   pub rows_again : rows ≡ reduced_arcs (demand_by goal supplies) (arcs_in goal rows)
   rows_again = are ∙ ap (reduced_arcs (demand_by goal supplies)) (sym arcs_are)
-
-  pub count_is : front goal + length arcs ≡ length rows
-  count_is = ap (λ (n : ℕ). n + length arcs) (front_is goal supplies) ∙ rows_counted (demand_by goal supplies) arcs ∙ ap (λ (r : List ArcRow). length r) (sym are)
 
   -- a network of these arcs
   pub sound_of : (nodes room : ℕ) (first next : List (Option ℕ)) (rows_room next_room : ℕ) → IsLawful (instance_of nodes goal supplies arcs room) → length supplies ≡ nodes
@@ -89,12 +77,6 @@ rows_pop (GreatestFlow source sink) supplies (r ∷ rows) a are some = record {
 rows_pop _ supplies rows a are some = record { rows_are = refl; arcs_are = refl }
 
 -- ---- lists of ends
-
-pub listed_is : (entry : ℕ) (end : Option ℕ) → SomeIff end (1 ≤ entry) (entry - 1) → end ≡ listed_end entry
-listed_is zero None none = refl
-listed_is zero (Some end) some = absurd (omega (arith, some.0))
-listed_is (suc entry) None none = absurd (none (omega arith))
-listed_is (suc entry) (Some end) some = (let is : end ≡ entry = omega (arith, some.1) in ap (λ (e : ℕ). Some e) is)
 
 pub entry_is : (entries : List ℕ) (i : ℕ) → listed_end (slice_index_or entries i 0) ≡ slice_index_or (ends_in entries) i None
 entry_is entries i = sym (get_or-map listed_end entries i 0)
