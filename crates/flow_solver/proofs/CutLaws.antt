@@ -2,7 +2,7 @@
 use Rattle.std.proofs.Common.{◌≡◌, ℕ, suc, ◌≤◌, ◌≤ℤ◌, ℤ, pos, List, [], ◌∷◌, length, refl, sym, ap, ◌∙◌, arith, Bool, true, false, cond, not, ◌&&◌}
 use Rattle.std.proofs.lemmas.Int.{ints}
 use Rattle.dimacs_text.specs.declared.problem.ArcRow.{ArcRow}
-use Rattle.network.specs.Flow.{MinCost, IsNode, AllEndsAreNodes, nodes_sum, arcs_sum, supply_of, crosses, outside, surplus_of, shortfall_of, IsLeastGreatestSurplus, IsLeastGreatestShortfall}
+use Rattle.network.specs.Flow.{MinCost, IsNode, AllEndsAreNodes, arcs_sum, supply_of, crosses, outside, surplus_of, shortfall_of, IsLeastGreatestSurplus, IsLeastGreatestShortfall}
 use Rattle.network.proofs.Sums.{nodes_sum-same}
 use Rattle.augmentation.specs.Cut.{sum_in, sum_leaving, sum_entering, surplus, shortfall, IsLeastSet}
 use Rattle.tracked.specs.Marks.{in_set}

@@ -6,7 +6,7 @@ use Rattle.dimacs_text.specs.declared.command.Edit.TheVariants as edits
 use Rattle.dimacs_text.specs.declared.problem.TheConstants.{SUPPLY_LIMIT}
 use Rattle.dimacs_text.specs.declared.problem.Kind.TheVariants.{Min}
 use Rattle.network.specs.Edited.{edited}
-use Rattle.network.specs.Instance.{Demand, Terminals, Instance, kind_of, reduced, with_supply}
+use Rattle.network.specs.Instance.{Instance, kind_of, reduced, with_supply}
 use Rattle.flow_solver.specs.declared.part.Part.{Part}
 use Rattle.flow_solver.specs.declared.part.Part.TheVariants.{Arc, Supply, Last, Gone}
 use Rattle.flow_solver.specs.declared.verdict.Verdict.{Verdict}
