@@ -7,7 +7,7 @@ use Rattle.std.proofs.lemmas.List.{get_or_default, drop_all, take_more, same_fro
 use Rattle.dimacs_text.specs.declared.problem.ArcRow.{ArcRow}
 use Rattle.dimacs_text.specs.declared.problem.TheConstants.{ARC_LIMIT, SUPPLY_LIMIT}
 use Rattle.dimacs_text.specs.Lawful.{IsWithin}
-use Rattle.network.specs.Instance.{Demand, Supplies, Terminals, Sides, Instance, DemandFits, IsLawful, numbered_flow, with_supply}
+use Rattle.network.specs.Instance.{Demand, Supplies, Terminals, Instance, DemandFits, IsLawful, numbered_flow, with_supply}
 use Rattle.flow_solver.specs.Moment.{Moment}
 use Rattle.flow_solver.specs.TablesView.{IsFlowValue, IsRowOf, HasEnds, supplies_in}
 use Rattle.flow_solver.specs.declared.part.Part.{Part}
@@ -79,23 +79,19 @@ run_end next i now m left end all run =
 
 demand_kept : (demand : Demand) → demand_swapped [] demand ≡ demand
 demand_kept (Supplies supplies) = refl
-demand_kept (Terminals source sink) = refl
-demand_kept (Sides marks) = refl
+demand_kept _ = refl
 
 demand_more : (p : ℕ × ℤ) (places : List (ℕ × ℤ)) (demand : Demand) → demand_swapped places (with_supply demand p.0 p.1) ≡ demand_swapped (p ∷ places) demand
 demand_more p places (Supplies supplies) = refl
-demand_more p places (Terminals source sink) = refl
-demand_more p places (Sides marks) = refl
+demand_more p places _ = refl
 
 demand_one : (p : ℕ × ℤ) (demand : Demand) → with_supply demand p.0 p.1 ≡ demand_swapped (p ∷ []) demand
 demand_one p (Supplies supplies) = refl
-demand_one p (Terminals source sink) = refl
-demand_one p (Sides marks) = refl
+demand_one p _ = refl
 
 supplies_put : (p : ℕ × ℤ) (demand : Demand) → supplies_in (with_supply demand p.0 p.1) ≡ set (supplies_in demand) (p.0 - 1) p.1
 supplies_put p (Supplies supplies) = refl
-supplies_put p (Terminals source sink) = refl
-supplies_put p (Sides marks) = refl
+supplies_put p _ = refl
 
 abbrev with_demand : Moment → Demand → Moment
 with_demand m demand = record m { instance = record m.instance { demand = demand } }
@@ -171,8 +167,6 @@ run_gone next [] [] m same room are_rows are_flows = record {
   parts = refl;
   moment = sym (ap₂ (λ (xs : List ArcRow) (ys : List ℤ). record m { instance = record m.instance { arcs = xs }; flow = ys }) (append-nil m.instance.arcs) (append-nil m.flow));
 }
-run_gone next [] (flow ∷ flows) m same room are_rows are_flows = absurd (omega arith)
-run_gone next (row ∷ rows) [] m same room are_rows are_flows = absurd (omega arith)
 run_gone next (row ∷ rows) (flow ∷ flows) m same room are_rows are_flows =
     let now : Moment = grown m (row ∷ []) (flow ∷ []) in
     let rest = run_gone next rows flows now (omega arith) (omega (arith, length-append m.instance.arcs (row ∷ []))) (λ k d below. are_rows (suc k) d (omega arith)) (λ k d below. are_flows (suc k) d (omega arith)) in
@@ -181,6 +175,7 @@ run_gone next (row ∷ rows) (flow ∷ flows) m same room are_rows are_flows =
       parts = ap (λ ps. Last ∷ ps) rest.parts;
       moment = rest.moment ∙ ap₂ (λ (xs : List ArcRow) (ys : List ℤ). record m { instance = record m.instance { arcs = xs }; flow = ys }) (append_assoc m.instance.arcs (row ∷ []) rows) (append_assoc m.flow (flow ∷ []) flows);
     }
+run_gone next _ _ m same room are_rows are_flows = absurd (omega arith)
 
 -- arcs are read one after the other
 run_last : (n next : ℕ) (m : Moment) → next + n ≡ length m.instance.arcs → next + n ≡ length (flow_of m) → length m.instance.arcs ≤ ARC_LIMIT → Runs next (replicate n Last) m (gone_parts (drop next m.instance.arcs) (drop next (flow_of m))) m
@@ -224,9 +219,8 @@ all_put N m = record m {
 
 -- the numbered arcs have no more flows than there are
 numbered_fewer : (demand : Demand) (flow : List ℤ) → length (numbered_flow demand flow) ≤ length flow
-numbered_fewer (Supplies supplies) flow = omega arith
 numbered_fewer (Terminals source sink) flow = omega (arith, length-drop 1 flow)
-numbered_fewer (Sides marks) flow = omega arith
+numbered_fewer _ flow = omega arith
 
 module _ (ps : List Part) (m : Moment) (fits : PartsFit ps m.instance) (lawful : IsLawful m.instance) (one : length (flow_of m) ≡ length m.instance.arcs) where
   abbrev N : Named
