@@ -1,7 +1,7 @@
 -- The kind of problem stays, whatever step is taken.
 use Rattle.std.proofs.Common.{◌≡◌, ℕ, ℤ, Bool, true, false, List, refl, ap, ◌∙◌}
 use Rattle.std.specs.Bool.{OnTrue, OnFalse}
-use Rattle.history.specs.Boards.{Changes, MovesBack, MovesForward}
+use Rattle.history.specs.Boards.{Changes, MovesBack}
 use Rattle.network.specs.Instance.{Demand, Supplies, kind_of}
 use Rattle.flow_solver.specs.Moment.{Moment}
 use Rattle.session.specs.Parts.{named, demand_swapped}
@@ -20,8 +20,3 @@ pub kind_back : (moved : Bool) (old new : Changes Recorded) (m d : Moment) → O
     → kind_of d.instance.demand ≡ kind_of m.instance.demand
 kind_back true old new m d (r, past, future, is_d) same = kind_led r m d is_d
 kind_back false old new m d moves same = ap (λ (n : Moment). kind_of n.instance.demand) same
-
-pub kind_forward : (moved : Bool) (old new : Changes Recorded) (m d : Moment) → OnTrue moved (MovesForward record_turned with_record old new m d) → OnFalse moved (d ≡ m)
-    → kind_of d.instance.demand ≡ kind_of m.instance.demand
-kind_forward true old new m d (r, future, past, is_d) same = kind_led r m d is_d
-kind_forward false old new m d moves same = ap (λ (n : Moment). kind_of n.instance.demand) same
