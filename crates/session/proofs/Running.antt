@@ -1,19 +1,19 @@
 -- The parts taken one after the other leave what the parts in their normal form leave.
-use Rattle.std.proofs.Common.{◌≡◌, ℕ, zero, suc, ◌+◌, ◌-◌, ◌<◌, ◌≤◌, ℤ, pos, List, [], ◌∷◌, ◌++◌, length, get_or, set, take, drop, refl, sym, ap, ap₂, subst, ◌∙◌, arith, inl, inr, ◌⊎◌, append-nil, append_assoc, length-append, length-drop, length-set, get_or-set_other}
+use Rattle.std.proofs.Common.{◌≡◌, ℕ, zero, suc, ◌+◌, ◌-◌, ◌<◌, ◌≤◌, ℤ, pos, List, [], ◌∷◌, ◌++◌, length, get_or, set, take, drop, refl, sym, ap, ap₂, subst, ◌∙◌, arith, inl, inr, ◌⊎◌, append-nil, append_assoc, length-append, length-set, get_or-set_other}
 use Rattle.std.proofs.Math.ListN.{replicate}
 use Rattle.std.specs.List.{All}
 use Rattle.std.proofs.lemmas.List.{drop_all, take_more, same_from_push, drop_more, take_all, nil_from_length}
 use Rattle.dimacs_text.specs.declared.problem.ArcRow.{ArcRow}
 use Rattle.dimacs_text.specs.declared.problem.TheConstants.{ARC_LIMIT, SUPPLY_LIMIT}
 use Rattle.dimacs_text.specs.Lawful.{IsWithin}
-use Rattle.network.specs.Instance.{Demand, Supplies, Terminals, Instance, DemandFits, IsLawful, numbered_flow, with_supply}
+use Rattle.network.specs.Instance.{Demand, Supplies, Instance, DemandFits, IsLawful, with_supply}
 use Rattle.flow_solver.specs.Moment.{Moment}
 use Rattle.flow_solver.specs.TablesView.{IsFlowValue, IsRowOf, HasEnds, supplies_in}
 use Rattle.flow_solver.specs.declared.part.Part.{Part}
 use Rattle.flow_solver.specs.declared.part.Part.TheVariants.{Arc, Supply, Last, Gone}
 use Rattle.session.specs.Places.{PlacesFit, exchanged, taken, ended, end_of}
 use Rattle.session.specs.PlacesLaws.{length-exchanged, taken-set, IsElsewhere, rising_head, rising_tail}
-use Rattle.session.proofs.Endings.{end_of-exchanged, ended_none}
+use Rattle.session.proofs.Endings.{end_of-exchanged}
 use Rattle.session.specs.Parts.{Named, named, supply_parts, arc_parts, gone_parts, listed, flow_of, demand_swapped, named_turned, NamedFit, PartsFit, no_row, put_in, left_by, next_after, PartFits, cut_off}
 use Rattle.session.specs.PartsLaws.{row_for, demand_fits-swapped, supplies_within}
 use Rattle.session.proofs.Supplies.{has_supply}
@@ -186,21 +186,12 @@ run_end_parts go rows flows m (inr none) same one go_there room few are_rows are
 
 -- ---- the whole
 
-flows_end : (go : ℕ) (rows : List ArcRow) (flows : List ℤ) → (go ≡ 0) ⊎ (rows ≡ []) → length flows ≡ length rows → (go ≡ 0) ⊎ (flows ≡ [])
-flows_end go rows flows (inl none) same = inl none
-flows_end go rows flows (inr none) same = inr (nil_from_length flows (omega (arith, ap length none)))
-
 -- the moment before the arcs that go are dropped
 abbrev pub all_put : Named → Moment → Moment
 all_put N m = record m {
   instance = record m.instance { demand = demand_swapped N.supplies m.instance.demand; arcs = exchanged N.rows m.instance.arcs ++ N.come_rows };
   flow = m.flow ++ N.come_flows;
 }
-
--- the numbered arcs have no more flows than there are
-numbered_fewer : (demand : Demand) (flow : List ℤ) → length (numbered_flow demand flow) ≤ length flow
-numbered_fewer (Terminals source sink) flow = omega (arith, length-drop 1 flow)
-numbered_fewer _ flow = omega arith
 
 module _ (ps : List Part) (m : Moment) (fits : PartsFit ps m.instance) (lawful : IsLawful m.instance) (one : length (flow_of m) ≡ length m.instance.arcs) where
   abbrev N : Named
@@ -232,9 +223,6 @@ module _ (ps : List Part) (m : Moment) (fits : PartsFit ps m.instance) (lawful :
   rows_there = omega (arith, fits.fit.go, length-append (exchanged N.rows m.instance.arcs) N.come_rows, length-exchanged N.rows m.instance.arcs)
 
 -- ---- the arcs that go are dropped
-
-pub cut_none : (m : Moment) → m ≡ cut_off 0 m
-cut_none m = sym (ap₂ (λ (xs : List ArcRow) (ys : List ℤ). record m { instance = record m.instance { arcs = xs }; flow = ys }) (ended_none m.instance.arcs) (ended_none m.flow))
 
 cut_one : {X : Type 0} (xs ys zs : List X) (y : X) (i : ℕ) → i < length xs → zs ≡ ended i [] xs → zs ≡ ys ++ y ∷ [] → ys ≡ ended (i + 1) [] xs
 cut_one xs ys zs y i below zs_is split =
