@@ -114,15 +114,14 @@ back_step None old new reply is = refusal _ old new reply is
 command_step : (c : Command) (old new : SessionState) (reply : Reply) → StepBy c old reply new → StepsRightly old reply new
 command_step (commands.Edit edit) old new reply is = edit_step (edited old.moments.present.instance edit) edit old new reply is
 command_step commands.Undo old new reply (inl is) = accepted old new reply TellsVerdict is.reply_is tells_none (along old new (all_boards_back old.moments new.moments is.back))
-command_step commands.Undo old new reply (inr is) = refusal _ old new reply is.1
 command_step commands.Redo old new reply (inl is) = accepted old new reply TellsVerdict is.reply_is tells_none (along old new (all_boards_forward old.moments new.moments is.forward))
-command_step commands.Redo old new reply (inr is) = refusal _ old new reply is.1
 command_step commands.Show old new reply is = accepted old new reply (Shows false) is.reply_is (shows_none false) (unmoved old new is.unchanged)
 command_step commands.Proof old new reply is = accepted old new reply (Shows true) is.reply_is (shows_none true) (unmoved old new is.unchanged)
 command_step commands.Group old new reply is = refusal _ old new reply is
 command_step commands.End old new reply is = refusal _ old new reply is
 command_step (commands.Mark name) old new reply is = mark_step (has_place old.marks name) name old new reply is
 command_step (commands.Back name) old new reply is = back_step (marked old.marks name) old new reply is
+command_step _ old new reply (inr is) = refusal _ old new reply is.1
 
 line_step : (r : Result Command ℕ) (old new : SessionState) (reply : Reply)
     → MatchResult r (λ c. StepBy c old reply new) (λ number. IsRefused number old reply new) → StepsRightly old reply new
@@ -160,11 +159,10 @@ restores old changed new reply made (inr is) = absurd (no_past old.moments.past 
 
 goes : (state : SessionState) (turns : List Turn) (replies : List (List ℕ)) (last : SessionState) → AreRightMoments state → Run state turns replies last → GoesRightly state turns replies
 goes state [] [] last all run = tt
-goes state [] (text ∷ replies) last all run = run
-goes state (turn ∷ turns) [] last all run = run
 goes state (turn ∷ turns) (text ∷ replies) last all run =
     let all_next = (step turn state run.0 run.1 run.2).remain all in
     (run.0, run.1, run.2, all_next, run.3, goes run.0 turns replies last all_next run.4)
+goes state _ _ last all run = run
 
 -- a state without past and future
 one_moment : (state : SessionState) → state.moments.past ≡ [] → state.moments.future ≡ [] → IsRightMoment state.moments.present → AreRightMoments state

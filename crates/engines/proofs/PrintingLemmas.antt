@@ -5,15 +5,12 @@ use Rattle.std.proofs.lemmas.Option.{get_or_from_slice_get, slice_get_within}
 use Rattle.std.specs.Prelude.{slice_get}
 use Rattle.std.specs.Io.KnownBytes.{Appends}
 use Rattle.dimacs_io.specs.Device.{AppendsBeginning}
+use Rattle.dimacs_io.proofs.DeviceLemmas.{AppendsBeginning-after}
 use Rattle.std.proofs.KnownBytes.{Appends-nil, Appends-trans}
 use Rattle.dimacs_io.specs.Line.{potential_line, cut_line}
 use Rattle.dimacs_text.specs.declared.problem.ArcRow.{ArcRow}
 use Rattle.network.specs.Instance.{arc_at}
 use Rattle.engines.specs.Printing.{flow_line_of, flow_lines, potential_lines, cut_lines}
-
--- all of xs was written, and then a beginning of ys
-pub stopped_after : (a b c : Option (List ℕ)) (xs ys : List ℕ) → Appends a b xs → AppendsBeginning b c ys → AppendsBeginning a c (xs ++ ys)
-stopped_after a b c xs ys p q = (xs ++ q.0, (q.1.0, ap (λ l. xs ++ l) q.1.1 ∙ sym (append_assoc xs q.0 q.1.0)), Appends-trans a b c xs q.0 p q.2)
 
 -- of a whole text some was written, and the rest is still to come
 pub record Wrote (before now : Option (List ℕ)) (whole rest : List ℕ) : Type 0 where
@@ -38,7 +35,7 @@ Wrote-all a b whole rest w e =
 
 pub Wrote-stopped : (a b c : Option (List ℕ)) (whole rest next more : List ℕ) → Wrote a b whole rest → rest ≡ next ++ more → AppendsBeginning b c next → AppendsBeginning a c whole
 Wrote-stopped a b c whole rest next more w e p =
-    let part = stopped_after a b c w.done next w.appends p in
+    let part = AppendsBeginning-after a b c w.done next w.appends p in
     let longer : whole ≡ (w.done ++ next) ++ more = w.parts ∙ ap (λ l. w.done ++ l) e ∙ sym (append_assoc w.done next more) in
     (part.0, (part.1.0 ++ more, longer ∙ ap (λ l. l ++ more) part.1.1 ∙ append_assoc part.0 part.1.0 more), part.2)
 

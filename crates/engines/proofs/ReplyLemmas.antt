@@ -19,13 +19,12 @@ nothing_answered (turn ∷ next ∷ turns) old new taken = absurd taken
 
 turn_answered : (turns : List Turn) (old new : SessionState) (reply : Reply) → TakesTurns turns old (Some reply) new
     → AnswersTurns old turns (reply_text reply new.moments.present) new
-turn_answered [] old new reply taken = absurd taken
 turn_answered (turn ∷ []) old new reply taken = record {
   texts = reply_text reply new.moments.present ∷ [];
   run = (new, reply, taken, refl, refl);
   written_is = sym (append-nil (reply_text reply new.moments.present));
 }
-turn_answered (turn ∷ next ∷ turns) old new reply taken = absurd taken
+turn_answered _ old new reply taken = absurd taken
 
 no_turn : (turns : List Turn) (old new : SessionState) → TakesTurns turns old None new → length turns ≡ 0
 no_turn [] old new same = refl
@@ -33,9 +32,8 @@ no_turn (turn ∷ []) old new taken = absurd taken
 no_turn (turn ∷ next ∷ turns) old new taken = absurd taken
 
 one_turn : (turns : List Turn) (old new : SessionState) (reply : Reply) → TakesTurns turns old (Some reply) new → length turns ≡ 1
-one_turn [] old new reply taken = absurd taken
 one_turn (turn ∷ []) old new reply taken = refl
-one_turn (turn ∷ next ∷ turns) old new reply taken = absurd taken
+one_turn _ old new reply taken = absurd taken
 
 on_ok : {T E P : Type 0} (r : Result T E) → P → OnOk r P
 on_ok (Ok v) p = p

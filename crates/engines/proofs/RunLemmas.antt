@@ -7,10 +7,8 @@ use Rattle.std.proofs.lemmas.List.Sums.{fold-append}
 use Rattle.std.proofs.lemmas.List.Elements.{filter-append}
 use Rattle.std.specs.Io.KnownBytes.{Appends}
 use Rattle.std.proofs.KnownBytes.{Appends-nil, Appends-trans}
-use Rattle.dimacs_io.specs.Device.{IsBeginning, AppendsBeginning, CountsFailure, RisesBy}
-use Rattle.dimacs_io.specs.declared.device.LastCall.{LastCall}
-use Rattle.dimacs_io.specs.declared.device.LastCall.TheVariants as last
-use Rattle.engines.proofs.PrintingLemmas.{stopped_after}
+use Rattle.dimacs_io.specs.Device.{IsBeginning, AppendsBeginning, RisesBy}
+use Rattle.dimacs_io.proofs.DeviceLemmas.{AppendsBeginning-after}
 use Rattle.dimacs_text.specs.Command.{opens_group, ends_group}
 use Rattle.dimacs_lines.specs.Cut.{Cut, CutsLine}
 use Rattle.dimacs_text.specs.Group.{Gathered}
@@ -20,7 +18,7 @@ use Rattle.dimacs_text.specs.Turns.{Turn, Turns, and_inside, and_outside, and_tu
 use Rattle.session.specs.Step.{SessionState}
 use Rattle.session.specs.Turns.{asks, gathered_in, turns_by}
 use Rattle.engines.specs.Run.{Answers, AnswersTurns, Run, reply_count, turns_in}
-use Rattle.engines.specs.Serving.{Answered, AnswersAll, AnswersLine, GoesOn, Output, ServesLine, Stands, StaysPassedOn, Stopped}
+use Rattle.engines.specs.Serving.{Answered, AnswersAll, AnswersLine, GoesOn, Output, ServesLine, Stands, Stopped}
 use Rattle.engines.proofs.FlushLemmas.{RisesBy-more, RisesBy-none}
 use Rattle.engines.proofs.LineLemmas.{IsBeginning-same, IsBeginning-trans}
 
@@ -67,10 +65,9 @@ reply_count-push lines line =
 Run-join : (turns more : List Turn) (texts next : List (List ℕ)) (first mid last : SessionState) → Run first turns texts mid → Run mid more next last
     → Run first (turns ++ more) (texts ++ next) last
 Run-join [] more [] next first mid last run then = subst (λ s. Run s more next last) run then
-Run-join [] more (text ∷ texts) next first mid last run then = absurd run
-Run-join (turn ∷ turns) more [] next first mid last run then = absurd run
 Run-join (turn ∷ turns) more (text ∷ texts) next first mid last run then =
     (run.0, run.1, run.2, run.3, Run-join turns more texts next run.0 mid last run.4 then)
+Run-join _ more _ next first mid last run then = absurd run
 
 AnswersTurns-join : (turns more : List Turn) (written text : List ℕ) (first mid last : SessionState) → AnswersTurns first turns written mid → AnswersTurns mid more text last
     → AnswersTurns first (turns ++ more) (written ++ text) last
@@ -110,7 +107,7 @@ Stopped-more first mid last lines line text before now after done step part turn
   whole = done.written ++ text;
   last = last;
   answers = Answers-more lines line done.written text first mid last done.answers step;
-  appends = stopped_after before.contents now.contents after.contents done.written text done.appends part;
+  appends = AppendsBeginning-after before.contents now.contents after.contents done.written text done.appends part;
   flushes = reply_count lines;
   count = reply_count-push lines line ∙ ap (λ (n : ℕ). reply_count lines + n) turn.0;
   flushed = subst (λ (n : ℕ). RisesBy (reply_count lines) before.flushes n) (sym turn.1) done.flushed;
@@ -213,7 +210,7 @@ AnswersAll-served (Err e) first mid last group given before now after done serve
       whole = done.written ++ served.text;
       last = last;
       answers = Answers-end first last given (done.written ++ served.text) whole;
-      appends = stopped_after before.contents now.contents after.contents done.written served.text done.appends served.writes;
+      appends = AppendsBeginning-after before.contents now.contents after.contents done.written served.text done.appends served.writes;
       flushes = reply_count (parts_of given).ended;
       count = sym (reply_count-end given) ∙ longer;
       flushed = subst (λ (n : ℕ). RisesBy (reply_count (parts_of given).ended) before.flushes n) (sym served.flushed.1) done.flushed;
@@ -226,26 +223,12 @@ Answered-none first last given before now none done =
     let all : lines_of given ≡ (parts_of given).ended = ap (λ (rest : Line). (parts_of given).ended ++ last_line rest) none ∙ append-nil (parts_of given).ended in
     subst (λ (lines : List Line). Answered first lines last before now) (sym all) done
 
--- ---- what a call leaves, by its result
+-- ---- a call by its result
 
-pub Stopped-from_err : {E : Type 0} (r : Result (Unit {0}) E) (first : SessionState) (given : List ℕ) (present : SessionState) (group : Option Gathered) (cut : Cut) (before now : Output) → is_err r ≡ true
-    → GoesOn r first given present group cut before now → Stopped first (parts_of given).ended before now
-Stopped-from_err (Ok v) first given present group cut before now failed goes = absurd (false≢true failed)
-Stopped-from_err (Err e) first given present group cut before now failed goes = goes
+pub ok_from : {T E : Type 0} (r : Result T E) → is_err r ≡ false → (v : T) × (r ≡ Ok v)
+ok_from (Ok v) fine = (v, refl)
+ok_from (Err e) fine = absurd (false≢true (sym fine))
 
-pub Stands-from_ok : {E : Type 0} (r : Result (Unit {0}) E) (first : SessionState) (given : List ℕ) (present : SessionState) (group : Option Gathered) (cut : Cut) (before now : Output) → is_err r ≡ false
-    → GoesOn r first given present group cut before now → Stands first given present group cut before now
-Stands-from_ok (Ok v) first given present group cut before now fine goes = goes
-Stands-from_ok (Err e) first given present group cut before now fine goes = absurd (false≢true (sym fine))
-
-pub same_from_ok : {T E : Type 0} (r : Result T E) (old new : ℕ) → is_err r ≡ false → CountsFailure r old new → new ≡ old
-same_from_ok (Ok v) old new fine counts = counts
-same_from_ok (Err e) old new fine counts = absurd (false≢true (sym fine))
-
-pub passed_on_from_ok : {E : Type 0} (r : Result (Unit {0}) E) (before now : LastCall) → is_err r ≡ false → StaysPassedOn r before now → before ≡ last.Flush → now ≡ last.Flush
-passed_on_from_ok (Ok v) before now fine stays passed = stays passed
-passed_on_from_ok (Err e) before now fine stays passed = absurd (false≢true (sym fine))
-
-pub failed_from_err : {E : Type 0} (r : Result (Unit {0}) E) (before now : LastCall) → is_err r ≡ true → StaysPassedOn r before now → now ≡ last.Failure
-failed_from_err (Ok v) before now failed stays = absurd (false≢true failed)
-failed_from_err (Err e) before now failed stays = stays
+pub err_from : {T E : Type 0} (r : Result T E) → is_err r ≡ true → (e : E) × (r ≡ Err e)
+err_from (Ok v) failed = absurd (false≢true failed)
+err_from (Err e) failed = (e, refl)

@@ -1,7 +1,7 @@
 -- What a whole run of `solve` has written, by where it ends.
-use Rattle.std.proofs.Common.{◌≡◌, ℕ, ◌+◌, arith, Bool, List, [], take, Option, None, Some, Ok, Err, inl, inr, refl, sym, ap, append-nil}
+use Rattle.std.proofs.Common.{◌≡◌, ℕ, Bool, List, [], take, Option, Some, Ok, Err, inl, inr, refl, sym, ap, append-nil}
 use Rattle.std.specs.Io.KnownBytes.{Appends}
-use Rattle.dimacs_io.specs.Device.{AppendsBeginning, RisesBy}
+use Rattle.dimacs_io.specs.Device.{AppendsBeginning}
 use Rattle.dimacs_lines.specs.declared.fault.TextFault.TheVariants as text_fault
 use Rattle.dimacs_lines.specs.Stream.{decided}
 use Rattle.dimacs_text.specs.Reading.{ProblemValue, problem_rule, reads}
@@ -26,19 +26,16 @@ use Rattle.runs.proofs.SourceLemmas.{appended}
 -- the problem was not read
 problem_end : (e : ReadError) (proof : Bool) (text given : List ℕ) → ReadsWhole (decided problem_rule) reads (Err e) text given → SolveWrites (error_end the.Problem e) proof text given []
 problem_end (read_error.Text text_fault.Memory) proof text given is = refl
-problem_end (read_error.Text (text_fault.Fault number line)) proof text given is = (is, refl)
-problem_end read_error.Source proof text given is = (is, refl)
+problem_end _ proof text given is = (is, refl)
 
 SolveOnDevices-problem : (e : ReadError) (proof : Bool) (known : Option (List ℕ)) (count : ℕ) (before : Option (List ℕ)) → ReadsKnown (decided problem_rule) reads (Err e) known count
     → SolveOnDevices (error_end the.Problem e) proof known count before before
-SolveOnDevices-problem e proof None count before is = tt
-SolveOnDevices-problem e proof (Some text) count None is = tt
 SolveOnDevices-problem e proof (Some text) count (Some held) is = ([], ap (λ l. Some l) (sym (append-nil held)), problem_end e proof text (take count text) is)
+SolveOnDevices-problem e proof _ count _ is = tt
 
 memory_end : (proof : Bool) (known : Option (List ℕ)) (count : ℕ) (before : Option (List ℕ)) → SolveOnDevices Memory proof known count before before
-memory_end proof None count before = tt
-memory_end proof (Some text) count None = tt
 memory_end proof (Some text) count (Some held) = ([], ap (λ l. Some l) (sym (append-nil held)), refl)
+memory_end proof _ count _ = tt
 
 -- no session was opened
 pub SolveOnDevices-unopened : (end : End) (proof : Bool) (known : Option (List ℕ)) (count : ℕ) (before : Option (List ℕ)) → EndsWithoutSession known count end
@@ -57,10 +54,9 @@ solves problem m text given read settled = record {
 pub SolveOnDevices-stopped : (problem : ProblemValue) (m : Moment) (proof : Bool) (known : Option (List ℕ)) (count : ℕ) (before after : Option (List ℕ))
     → ReadsKnown (decided problem_rule) reads (Ok problem) known count → IsSettled (first problem 0) m
     → AppendsBeginning before after (solution proof m) → SolveOnDevices WriteFailed proof known count before after
-SolveOnDevices-stopped problem m proof None count before after read settled part = tt
-SolveOnDevices-stopped problem m proof (Some text) count None after read settled part = tt
 SolveOnDevices-stopped problem m proof (Some text) count (Some held) after read settled part =
     (part.0, appended held part.0 after part.2, (m, solves problem m text (take count text) read settled, part.1))
+SolveOnDevices-stopped problem m proof _ count _ after read settled part = tt
 
 by_verdict : (v : Verdict) (proof : Bool) (text given written : List ℕ) → Prints (end_by v) proof text given written → SolveWrites (end_by v) proof text given written
 by_verdict (verdict.Best worth) proof text given written prints = prints
@@ -70,31 +66,13 @@ by_verdict (verdict.Infeasible shortage) proof text given written prints = print
 pub SolveOnDevices-solved : (problem : ProblemValue) (m : Moment) (proof : Bool) (known : Option (List ℕ)) (count : ℕ) (before after : Option (List ℕ))
     → ReadsKnown (decided problem_rule) reads (Ok problem) known count → IsSettled (first problem 0) m
     → Appends before after (solution proof m) → SolveOnDevices (end_by m.verdict) proof known count before after
-SolveOnDevices-solved problem m proof None count before after read settled all = tt
-SolveOnDevices-solved problem m proof (Some text) count None after read settled all = tt
 SolveOnDevices-solved problem m proof (Some text) count (Some held) after read settled all =
     let prints : Prints (end_by m.verdict) proof text (take count text) (solution proof m) =
     record { moment = m; solves = solves problem m text (take count text) read settled; ends = refl; written_is = refl } in
     (solution proof m, appended held (solution proof m) after all, by_verdict m.verdict proof text (take count text) (solution proof m) prints)
+SolveOnDevices-solved problem m proof _ count _ after read settled all = tt
 
--- the counts of failed calls
-
--- no failed write is counted where the solution was written
-pub written_count : (v : Verdict) (failures : ℕ) → failures ≡ failures + write_failures (end_by v)
-written_count (verdict.Best worth) failures = omega arith
-written_count (verdict.Infeasible shortage) failures = omega arith
-
--- by one flush
-pub written_flushed : (v : Verdict) (old new : ℕ) → RisesBy 1 old new → RisesBy (flushes_by (end_by v)) old new
-written_flushed (verdict.Best worth) old new one = one
-written_flushed (verdict.Infeasible shortage) old new one = one
-
--- and the last call passed it on
-pub written_last : (v : Verdict) (before : LastCall) → last.Flush ≡ last_by (end_by v) before
-written_last (verdict.Best worth) before = refl
-written_last (verdict.Infeasible shortage) before = refl
-
--- and the problem was read
-pub no_problem_failed : (v : Verdict) → problem_failures (end_by v) ≡ 0
-no_problem_failed (verdict.Best worth) = refl
-no_problem_failed (verdict.Infeasible shortage) = refl
+-- where the solution was written, no failed call is counted, and one flush, which is the last call
+pub told_counts : (v : Verdict) → (write_failures (end_by v) ≡ 0) × (flushes_by (end_by v) ≡ 1) × ((before : LastCall) → last.Flush ≡ last_by (end_by v) before) × (problem_failures (end_by v) ≡ 0)
+told_counts (verdict.Best worth) = (refl, refl, λ before. refl, refl)
+told_counts (verdict.Infeasible shortage) = (refl, refl, λ before. refl, refl)

@@ -56,9 +56,8 @@ row_is I k d at =
 -- the flow of arc k, among those of the numbered arcs
 pub flow_at : (D : Demand) (x : List ℤ) (k : ℕ) (d : ℤ) → 1 ≤ k → slice_index_or (numbered_flow D x) (k - 1) d ≡ slice_index_or x (flow_index D k) d
 flow_at (Terminals source sink) x zero d one = absurd (omega (arith, one))
-flow_at (Terminals source sink) [] (suc i) d one = refl
 flow_at (Terminals source sink) (y ∷ x) (suc i) d one = simp unary_clauses refl
-flow_at _ x k d one = refl
+flow_at _ _ _ d one = refl
 
 -- ---- one arc more or less at the end
 

@@ -1,6 +1,5 @@
 -- Edits that change or add one arc.
-use Rattle.std.proofs.Common.{◌≡◌, ℕ, zero, suc, ◌+◌, ◌-◌, ◌≤◌, ℤ, pos, ◌-ℤ◌, ◌<ℤ◌, ◌≤ℤ◌, [], ◌∷◌, ◌++◌, List, length, refl, sym, ap, subst, ◌∙◌, arith, slice_set, slice_index_or, unsigned_abs, Option, Some, Result, Ok, Err, IsOk}
-use Rattle.std.specs.Prelude.{◌&&◌, int_le}
+use Rattle.std.proofs.Common.{Bool, ◌≡◌, ℕ, zero, suc, ◌+◌, ◌-◌, ◌≤◌, ℤ, pos, ◌-ℤ◌, ◌<ℤ◌, ◌≤ℤ◌, [], ◌∷◌, ◌++◌, List, length, refl, sym, ap, subst, ◌∙◌, arith, slice_set, slice_index_or, unsigned_abs, Some, Result, Ok, Err, IsOk}
 use native.Mathlib.Numerals.{unary_clauses}
 use Rattle.std.proofs.lemmas.Int.{ints, by_lt_z}
 use Rattle.std.proofs.lemmas.Option.{slice_get_within, slice_get-get_or, get_or_from_slice_get}
@@ -8,13 +7,10 @@ use Rattle.std.proofs.lemmas.List.{get_or-set_same, length-set, length-append, g
 use Rattle.dimacs_text.specs.declared.command.Edit.{Edit}
 use Rattle.dimacs_text.specs.declared.command.Edit.TheVariants.{Cap, Low, Cost, Supply, Add, Close}
 use Rattle.dimacs_text.specs.declared.problem.ArcRow.{ArcRow}
-use Rattle.network.specs.declared.refusal.EditRefusal.{EditRefusal}
-use Rattle.network.specs.declared.refusal.EditRefusal.TheVariants.{NotForKind, OutOfRange, NoSuchNode, LowAboveCap, NotAcrossSides, TableFull}
-use Rattle.network.specs.Edited.{arc_of, edited, edited_by, has_room, is_across, is_new_row, is_node, row_or, tried, units, with_arc, with_last}
+use Rattle.network.specs.Edited.{arc_of, edited, units, with_arc, with_last}
 use Rattle.network.specs.Flow.{IsCertifiedFlow, FollowsSign, reduced_cost}
-use Rattle.network.specs.Instance.{Instance, IsLawful, arc_at, kind_of, reduced}
-use Rattle.network.proofs.EditedLemmas.{demand_ok, numbered_ok}
-use Rattle.network.proofs.EditedShape.{done_is}
+use Rattle.network.specs.Instance.{Instance, IsLawful, arc_at, reduced}
+use Rattle.network.proofs.EditedLemmas.{IsRowMade, Makes, edited_makes}
 use Rattle.residual_graph.specs.Residual.{IsWithinRow, number_at}
 use Rattle.residual_graph.proofs.GraphLemmas.{with_row, lawful_more}
 use Rattle.flow_solver.specs.Part.{OfArc, place_of_edit}
@@ -29,29 +25,21 @@ accepted : (r : Result Instance ℕ) → IsOk r → (J : Instance) × (r ≡ Ok 
 accepted (Ok after) ok = (after, refl)
 accepted (Err n) ok = cc
 
-edited_is : (I after : Instance) (edit : Edit) → ((J : Instance) → edited_by I edit ≡ Ok J → J ≡ after) → IsOk (edited I edit) → edited I edit ≡ Ok after
-edited_is I after edit is ok = (let J = accepted (edited I edit) ok in J.1 ∙ ap Ok (is J.0 (demand_ok _ NotForKind _ J.0 (numbered_ok (tried I edit) J.0 J.1)).1))
+edited_is : (I after : Instance) (edit : Edit) → ((J : Instance) → Makes edit I J → J ≡ after) → IsOk (edited I edit) → edited I edit ≡ Ok after
+edited_is I after edit is ok = (let J = accepted (edited I edit) ok in J.1 ∙ ap Ok (is J.0 (edited_makes I edit J.0 J.1).1))
 
-row_ok : (o : Option ArcRow) (row : ArcRow) (change : ArcRow → Result Instance EditRefusal) (J : Instance) → o ≡ Some row → row_or o change ≡ Ok J → change row ≡ Ok J
-row_ok o row change J is e = rw is at e
+row_changed : (I J : Instance) (k : ℕ) (met : ArcRow → Bool) (f : ArcRow → ArcRow) (old : ArcRow) → arc_at I.arcs k ≡ Some old → IsRowMade k met f I J → J ≡ with_arc I k (f old)
+row_changed I J k met f old is made = (let same : made.old ≡ old = cc (is, made.at) in made.made ∙ ap (λ (a : ArcRow). with_arc I k (f a)) same)
 
-arc_changed : (I : Instance) (edit : Edit) (old : ArcRow) → IsOfArc edit → arc_at I.arcs (arc_of edit) ≡ Some old → (J : Instance) → edited_by I edit ≡ Ok J → J ≡ with_arc I (arc_of edit) (row_after_edit edit old)
-arc_changed I (Cap k x) old of is J e = done_is _ J (demand_ok _ LowAboveCap _ J (row_ok _ old _ J is (demand_ok _ OutOfRange _ J e).1)).1
-arc_changed I (Low k x) old of is J e = done_is _ J (demand_ok _ LowAboveCap _ J (row_ok _ old _ J is (demand_ok _ OutOfRange _ J e).1)).1
-arc_changed I (Cost k x) old of is J e = done_is _ J (row_ok _ old _ J is (demand_ok _ OutOfRange _ J e).1)
-arc_changed I (Close k) old of is J e = done_is _ J (row_ok _ old _ J is e)
-arc_changed I _ old of is J e = absurd of
+arc_changed : (I : Instance) (edit : Edit) (old : ArcRow) → IsOfArc edit → arc_at I.arcs (arc_of edit) ≡ Some old → (J : Instance) → Makes edit I J → J ≡ with_arc I (arc_of edit) (row_after_edit edit old)
+arc_changed I (Cap k x) old of is J made = row_changed I J k _ _ old is made.1
+arc_changed I (Low k x) old of is J made = row_changed I J k _ _ old is made.1
+arc_changed I (Cost k x) old of is J made = row_changed I J k _ _ old is made.1
+arc_changed I (Close k) old of is J made = row_changed I J k _ _ old is made
+arc_changed I _ old of is J made = absurd of
 
 abbrev new_row : ℕ → ℕ → ℤ → ℤ → ℤ → ArcRow
 new_row tail head low cap cost = record { tail = tail; head = head; low = low; cap = cap; cost = cost }
-
-arc_added : (I : Instance) (t h : ℕ) (l c k : ℤ) (J : Instance) → edited_by I (Add t h l c k) ≡ Ok J → J ≡ with_last I (new_row t h l c k)
-arc_added I t h l c k J e =
-    let range = demand_ok (is_new_row (kind_of I.demand) l c k) OutOfRange _ J e in
-    let nodes = demand_ok (is_node I.nodes t && is_node I.nodes h) NoSuchNode _ J range.1 in
-    let order = demand_ok (int_le l c) LowAboveCap _ J nodes.1 in
-    let across = demand_ok (is_across I.demand t h) NotAcrossSides _ J order.1 in
-    done_is _ J (demand_ok (has_room I) TableFull _ J across.1).1
 
 -- ---- how far the flow of the arc moves
 
@@ -128,7 +116,7 @@ row_edit I edit old keeps lawful ok of is =
 pub add_edit : (I : Instance) (t h : ℕ) (l c k : ℤ) → KeepsLawful I (Add t h l c k) → IsLawful I → IsOk (edited I (Add t h l c k)) → IsAddEdit I (Add t h l c k) (record { tail = t; head = h; low = l; cap = c; cost = k })
 add_edit I t h l c k keeps lawful ok =
     let row = new_row t h l c k in
-    let after = edited_is I (with_last I row) (Add t h l c k) (arc_added I t h l c k) ok in
+    let after = edited_is I (with_last I row) (Add t h l c k) (λ J made. made.made) ok in
     let lawful_after = keeps (with_last I row) lawful after in
     let more = length-append I.arcs (row ∷ []) in
     let both = rw (get_or_push I.arcs row row (length I.arcs) refl) at (lawful_after.arcs (length I.arcs) row (omega (arith, more))) in

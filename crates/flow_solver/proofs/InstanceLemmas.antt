@@ -138,6 +138,5 @@ zero_entries zero v = refl
 zero_entries (suc n) v = zero_at n (v - 1)
   where
     zero_at : (n w : ℕ) → number_at (replicate n (pos 0)) w ≡ pos 0
-    zero_at zero w = refl
-    zero_at (suc n) zero = refl
     zero_at (suc n) (suc w) = zero_at n w
+    zero_at _ _ = refl

@@ -70,9 +70,8 @@ length-front xs = length-take-le (length xs - 1) xs (omega arith)
 
 get-take : {X : Type 0} (n : ℕ) (xs : List X) (i : ℕ) → i < n → slice_get (take n xs) i ≡ slice_get xs i
 get-take zero xs i below = absurd (omega (arith, below))
-get-take (suc n) [] i below = refl
-get-take (suc n) (x ∷ xs) zero below = refl
 get-take (suc n) (x ∷ xs) (suc i) below = get-take n xs i (omega (arith, below))
+get-take (suc n) _ _ below = refl
 
 -- each entry but the last
 front_at : {X : Type 0} (xs : List X) (i : ℕ) → length xs ≢ suc i → slice_get (take (length xs - 1) xs) i ≡ slice_get xs i

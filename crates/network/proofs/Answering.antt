@@ -33,9 +33,8 @@ potentials_from n potentials long each k d h =
 
 certified_by : (n : ℕ) (D : Demand) (arcs : List ArcRow) (room : ℕ) (flow : List ℤ) (p : ℕ → ℤ)
     → (AllWithinBounds arcs flow × AllZip (FollowsSign p) arcs flow × IsReturnCertified D arcs flow p × ((v : ℕ) → (1 ≤ v) × (v ≤ n) → IsPotential (p v))) ↔ IsCertified (made n D arcs room) flow p
-certified_by n (Supplies s) arcs room flow p = (λ h. record { bounds = h.0; signs = h.1; range = h.3 }, λ h. (h.bounds, h.signs, tt, h.range))
 certified_by n (Terminals source sink) arcs room flow p = (λ h. record { bounds = (h.2.0, h.0); signs = (h.2.1, h.1); range = h.3 }, λ h. (h.bounds.1, h.signs.1, (h.bounds.0, h.signs.0), h.range))
-certified_by n (Sides marks) arcs room flow p = (λ h. record { bounds = h.0; signs = h.1; range = h.3 }, λ h. (h.bounds, h.signs, tt, h.range))
+certified_by n _ arcs room flow p = (λ h. record { bounds = h.0; signs = h.1; range = h.3 }, λ h. (h.bounds, h.signs, tt, h.range))
 
 -- potentials certify a flow exactly where the bounds, the sign rule and the range hold, on the return arc too
 pub certified_is : (I : Instance) (flow : List ℤ) (p : ℕ → ℤ)
@@ -45,8 +44,6 @@ certified_is I flow p = certified_by I.nodes I.demand I.arcs I.room flow p
 -- each arc's cost is small
 pub costs_small : (n : ℕ) (D : Demand) (arcs : List ArcRow) (flow : List ℤ) → AllByRecursion (λ arc. IsLawfulRow n arc × ArcFits D arc) arcs → AllWithinBounds arcs flow → AllZip (λ arc x. unsigned_abs (arc.cost *ℤ x) ≤ unsigned_abs COST_LIMIT * CAP_LIMIT) arcs flow
 costs_small n D [] [] rows bounds = tt
-costs_small n D [] (x ∷ flow) rows bounds = absurd bounds
-costs_small n D (arc ∷ arcs) [] rows bounds = absurd bounds
 costs_small n D (arc ∷ arcs) (x ∷ flow) rows bounds =
     let low = rows.0.0.low in
     let cap = rows.0.0.limit in
@@ -56,6 +53,7 @@ costs_small n D (arc ∷ arcs) (x ∷ flow) rows bounds =
     let cost : unsigned_abs arc.cost ≤ unsigned_abs COST_LIMIT = omega (arith, ints) in
     let product : unsigned_abs arc.cost * unsigned_abs x ≤ unsigned_abs COST_LIMIT * CAP_LIMIT = mul-le-mul cost small in
     (rw (unsigned_abs-mul arc.cost x) (omega arith), costs_small n D arcs flow rows.1 bounds.1)
+costs_small n D _ _ rows bounds = absurd bounds
 
 -- the second test answers for both facts where the first holds, and the first where it fails
 pub second_answers : {A B L : Type 0} (r : Bool) → ((A × B) ↔ L) → A → (IsTrue r ↔ B) → IsTrue r ↔ L

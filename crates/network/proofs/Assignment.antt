@@ -17,8 +17,6 @@ module _ (n : ℕ) (marks : List Bool) where
   sums_at : (v : ℕ) (arcs : List ArcRow) (flow : List ℤ) → AllByRecursion (λ arc. IsLawfulRow n arc × ArcFits (Sides marks) arc) arcs
       → (is_marked marks v ≡ true → (inflow arcs flow v ≡ pos 0) × (outflow arcs flow v ≡ chosen_at arcs flow v))
       × (is_marked marks v ≡ false → (outflow arcs flow v ≡ pos 0) × (inflow arcs flow v ≡ chosen_at arcs flow v))
-  sums_at v [] flow fits = (λ _. (refl, refl), λ _. (refl, refl))
-  sums_at v (arc ∷ arcs) [] fits = (λ _. (refl, refl), λ _. (refl, refl))
   sums_at v (arc ∷ arcs) (x ∷ flow) fits =
       let rest = sums_at v arcs flow fits.1 in (
         λ m.
@@ -38,6 +36,7 @@ module _ (n : ℕ) (marks : List Bool) where
       or_false : (b : Bool) (x : ℤ) → (if b || false then x else pos 0) ≡ (if b then x else pos 0)
       or_false true x = refl
       or_false false x = refl
+  sums_at v _ _ fits = (λ _. (refl, refl), λ _. (refl, refl))
 
   choice_is_bounded : (arc : ArcRow) (x : ℤ) → ArcFits (Sides marks) arc → IsChoice arc x → IsWithinBounds arc x
   choice_is_bounded arc x fits (inl zero) = elim fits.1 [ inl c ↦ (let l = fits.0 in (omega (arith, ints), omega (arith, ints))) | inr c ↦ (let l = fits.0 in (omega (arith, ints), omega (arith, ints))) ]
@@ -53,15 +52,13 @@ module _ (n : ℕ) (marks : List Bool) where
 
   pub choices_are_bounded : (arcs : List ArcRow) (flow : List ℤ) → AllByRecursion (λ arc. IsLawfulRow n arc × ArcFits (Sides marks) arc) arcs → AllZip IsChoice arcs flow → AllWithinBounds arcs flow
   choices_are_bounded [] [] fits h = h
-  choices_are_bounded [] (x ∷ flow) fits h = absurd h
-  choices_are_bounded (arc ∷ arcs) [] fits h = absurd h
   choices_are_bounded (arc ∷ arcs) (x ∷ flow) fits h = (choice_is_bounded arc x fits.0.1 h.0, choices_are_bounded arcs flow fits.1 h.1)
+  choices_are_bounded _ _ fits h = absurd h
 
   pub bounded_are_choices : (arcs : List ArcRow) (flow : List ℤ) → AllByRecursion (λ arc. IsLawfulRow n arc × ArcFits (Sides marks) arc) arcs → AllWithinBounds arcs flow → AllZip IsChoice arcs flow
   bounded_are_choices [] [] fits h = h
-  bounded_are_choices [] (x ∷ flow) fits h = absurd h
-  bounded_are_choices (arc ∷ arcs) [] fits h = absurd h
   bounded_are_choices (arc ∷ arcs) (x ∷ flow) fits h = (bounded_is_choice arc x fits.0.1 h.0, bounded_are_choices arcs flow fits.1 h.1)
+  bounded_are_choices _ _ fits h = absurd h
 
   -- the net at a node is 1 or -1 exactly where one chosen arc has it as an end
   pub net_from_chosen : (v : ℕ) (arcs : List ArcRow) (flow : List ℤ) → AllByRecursion (λ arc. IsLawfulRow n arc × ArcFits (Sides marks) arc) arcs

@@ -1,5 +1,5 @@
 -- Nets weighted by a number at each node, summed over the nodes, are the flows weighted by the difference of those numbers at the ends.
-use Rattle.std.proofs.Common.{◌≡◌, ℕ, ◌≤◌, ◌==◌, ℤ, pos, ◌+ℤ◌, ◌-ℤ◌, ◌*ℤ◌, Bool, true, false, if◌then◌else◌, List, [], ◌∷◌, refl, ◌∙◌, arith}
+use Rattle.std.proofs.Common.{◌≡◌, ℕ, ◌≤◌, ◌==◌, ℤ, pos, ◌+ℤ◌, ◌-ℤ◌, ◌*ℤ◌, Bool, true, false, if◌then◌else◌, List, ◌∷◌, refl, ◌∙◌, arith}
 use Rattle.std.proofs.Math.IntN.{*ℤ-zero}
 use Rattle.std.specs.List.{AllByRecursion}
 use Rattle.dimacs_text.specs.declared.problem.ArcRow.{ArcRow}
@@ -26,8 +26,6 @@ weighted_net p x o i b c =
 module _ (n : ℕ) (p : ℕ → ℤ) where
   pub balance : (arcs : List ArcRow) (flow : List ℤ) → AllByRecursion (λ arc. ((1 ≤ arc.tail) × (arc.tail ≤ n)) × ((1 ≤ arc.head) × (arc.head ≤ n))) arcs
       → nodes_sum n (λ v. p v *ℤ net arcs flow v) ≡ flow_sum (λ arc x. (p arc.tail -ℤ p arc.head) *ℤ x) arcs flow
-  balance [] flow ends = nodes_sum-same n _ (λ v. pos 0) (λ v b. *ℤ-zero (p v)) ∙ nodes_sum-zero n
-  balance (arc ∷ arcs) [] ends = nodes_sum-same n _ (λ v. pos 0) (λ v b. *ℤ-zero (p v)) ∙ nodes_sum-zero n
   balance (arc ∷ arcs) (x ∷ flow) ends =
       let out : ℕ → ℤ = λ v. if arc.tail == v then p v *ℤ x else pos 0 in
       let into : ℕ → ℤ = λ v. if arc.head == v then p v *ℤ x else pos 0 in
@@ -40,3 +38,4 @@ module _ (n : ℕ) (p : ℕ → ℤ) where
       let product = sub-mul (p arc.tail) (p arc.head) x in
       let rest = balance arcs flow ends.1 in
       omega (arith, linear)
+  balance _ _ ends = nodes_sum-same n _ (λ v. pos 0) (λ v b. *ℤ-zero (p v)) ∙ nodes_sum-zero n

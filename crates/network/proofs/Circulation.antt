@@ -18,9 +18,8 @@ nets_cancel n arcs flow ends =
     nodes_sum-same n (net arcs flow) (λ v. pos 1 *ℤ net arcs flow v) (λ v b. omega (arith, ints)) ∙ balance n (λ v. pos 1) arcs flow ends ∙ nothing arcs flow
   where
     nothing : (arcs : List ArcRow) (flow : List ℤ) → flow_sum (λ arc x. (pos 1 -ℤ pos 1) *ℤ x) arcs flow ≡ pos 0
-    nothing [] flow = refl
-    nothing (arc ∷ arcs) [] = refl
     nothing (arc ∷ arcs) (x ∷ flow) = let h = nothing arcs flow in let z = zero-*ℤ x in omega (arith, linear)
+    nothing _ _ = refl
 
 -- where the nets but two are 0, those two are opposite
 pub opposite_nets : (n source sink : ℕ) (f : ℕ → ℤ) → (1 ≤ source) × (source ≤ n) → (1 ≤ sink) × (sink ≤ n) → source ≢ sink
@@ -34,9 +33,8 @@ opposite_nets n source sink f s t apart others whole =
   where
     by : (v : ℕ) → (1 ≤ v) × (v ≤ n) → (b c : Bool) → (source == v) ≡ b → (sink == v) ≡ c → f v ≡ (if b then f v else pos 0) +ℤ (if c then f v else pos 0)
     by v k true true e h = absurd (apart (eqb-true source v e ∙ sym (eqb-true sink v h)))
-    by v k true false e h = omega (arith, ints)
-    by v k false true e h = omega (arith, ints)
     by v k false false e h = rw (others v k (λ is. true≢false (sym (eq-eqb source v (sym is)) ∙ e)) (λ is. true≢false (sym (eq-eqb sink v (sym is)) ∙ h))) refl
+    by v k _ _ e h = omega (arith, ints)
 
 -- what the source sends out is at most what the capacities of all arcs come to
 pub net_below : (n source sink : ℕ) (arcs : List ArcRow) (flow : List ℤ) (v : ℕ) → AllByRecursion (λ arc. IsLawfulRow n arc × ArcFits (Terminals source sink) arc) arcs → AllWithinBounds arcs flow
@@ -61,12 +59,11 @@ net_below n source sink (arc ∷ arcs) (x ∷ flow) v fits bounds =
     at_least x false h = omega (arith, ints)
 
 pub free_of_cost : (n source sink : ℕ) (arcs : List ArcRow) (flow : List ℤ) → AllByRecursion (λ arc. IsLawfulRow n arc × ArcFits (Terminals source sink) arc) arcs → total_cost arcs flow ≡ pos 0
-free_of_cost n source sink [] flow fits = refl
-free_of_cost n source sink (arc ∷ arcs) [] fits = refl
 free_of_cost n source sink (arc ∷ arcs) (x ∷ flow) fits =
     let rest = free_of_cost n source sink arcs flow fits.1 in
     let here = ap (λ (c : ℤ). c *ℤ x) fits.0.1.1 ∙ zero-*ℤ x in
     omega (arith, linear)
+free_of_cost n source sink _ _ fits = refl
 
 pub zero_bounds : (n source sink : ℕ) (arcs : List ArcRow) → AllByRecursion (λ arc. IsLawfulRow n arc × ArcFits (Terminals source sink) arc) arcs → AllWithinBounds arcs (replicate (length arcs) (pos 0))
 zero_bounds n source sink [] fits = tt

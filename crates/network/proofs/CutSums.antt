@@ -1,15 +1,13 @@
 -- What the loops over the arcs and the nodes of a cut add up.
-use Rattle.std.proofs.Common.{◌≡◌, ℕ, ◌+◌, ◌*◌, ◌^◌, ◌<◌, ◌≤◌, Some, ℤ, pos, ◌+ℤ◌, ◌-ℤ◌, Bool, if◌then◌else◌, List, [], ◌∷◌, length, drop, slice_index_or, unsigned_abs, to_z, of_z, refl, add-one, arith}
+use Rattle.std.proofs.Common.{◌≡◌, ℕ, ◌+◌, ◌*◌, ◌^◌, ◌<◌, ◌≤◌, ℤ, pos, ◌+ℤ◌, ◌-ℤ◌, Bool, if◌then◌else◌, List, [], ◌∷◌, length, drop, slice_index_or, unsigned_abs, to_z, of_z, refl, add-one, arith}
 use Rattle.std.proofs.lemmas.Int.{to_z-of_z, fits_signed_from_abs}
 use Rattle.std.proofs.lemmas.List.{at_drop_more}
 use mir.Syntax.{w64}
 use Rattle.dimacs_text.specs.declared.problem.ArcRow.{ArcRow}
-use Rattle.network.specs.declared.TheConstants.{RETURN_CAP}
 use Rattle.network.specs.declared.CutForm.{CutForm}
 use Rattle.network.specs.declared.CutForm.TheVariants.{Surplus, Shortfall}
 use Rattle.network.specs.Flow.{arcs_sum, nodes_sum, MinCost, crosses, outside, supply_of}
 use Rattle.network.specs.Cut.{arc_part, cut_value}
-use Rattle.network.specs.Instance.{Demand, Supplies, Terminals, Sides, return_arc, return_arc_of, reduced_arcs}
 use Rattle.network.proofs.IntegerAlgebra.{linear}
 use Rattle.network.proofs.RunningSums.{abs-add}
 
@@ -44,15 +42,6 @@ cut_value_is Surplus I set =
 cut_value_is Shortfall I set =
     let s = arcs_sum-sub (λ arc. if crosses set (outside set) arc then arc.low else pos 0) (λ arc. if crosses (outside set) set arc then arc.cap else pos 0) I.arcs in
     omega (arith, linear)
-
--- the return arc, where there is one, is one more arc
-pub reduced_arcs_sum : (f : ArcRow → ℤ) (D : Demand) (arcs : List ArcRow) (arc : ArcRow) → Some arc ≡ return_arc_of D
-    → (arcs_sum f (reduced_arcs D arcs) ≡ f arc +ℤ arcs_sum f arcs) × (unsigned_abs arc.low + unsigned_abs arc.cap ≤ unsigned_abs RETURN_CAP)
-reduced_arcs_sum f (Supplies supplies) arcs arc is = absurd (cc)
-reduced_arcs_sum f (Terminals source sink) arcs arc is =
-    let same : arc ≡ return_arc source sink = cc in
-    rw same (refl, omega arith)
-reduced_arcs_sum f (Sides marks) arcs arc is = absurd (cc)
 
 pub surplus_from : (form : CutForm) (I : MinCost) (set : ℕ → Bool) (supply part : ℤ) → form ≡ Surplus → supply ≡ supply_of I set → part ≡ arcs_sum (arc_part form set) I.arcs → supply +ℤ part ≡ cut_value form I set
 surplus_from Surplus I set supply part is s p = let v = cut_value_is Surplus I set in omega (arith, linear)

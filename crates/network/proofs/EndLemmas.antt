@@ -19,16 +19,14 @@ arc_net v arc x = (if arc.tail == v then x else pos 0) -ℤ (if arc.head == v th
 
 flow_sum-push : (f : ArcRow → ℤ → ℤ) (arcs : List ArcRow) (flow : List ℤ) (arc : ArcRow) (x : ℤ) → length arcs ≡ length flow → flow_sum f (arcs ++ arc ∷ []) (flow ++ x ∷ []) ≡ flow_sum f arcs flow +ℤ f arc x
 flow_sum-push f [] [] arc x e = omega (arith, linear)
-flow_sum-push f [] (y ∷ flow) arc x e = absurd (omega arith)
-flow_sum-push f (a ∷ arcs) [] arc x e = absurd (omega arith)
 flow_sum-push f (a ∷ arcs) (y ∷ flow) arc x e = let h = flow_sum-push f arcs flow arc x (omega arith) in omega (arith, linear)
+flow_sum-push f _ _ arc x e = absurd (omega arith)
 
 -- the two ends of one arc
 two_ends : (v : ℕ) (arc : ArcRow) (x : ℤ) (b c : Bool) → ((if c then neg_ℤ x else pos 0) +ℤ ((if b then x else pos 0) +ℤ pos 0)) ≡ ((if b then x else pos 0) -ℤ (if c then x else pos 0))
 two_ends v arc x true true = omega (arith, linear)
-two_ends v arc x true false = omega (arith, linear)
+two_ends v arc x _ false = omega (arith, linear)
 two_ends v arc x false true = omega (arith, linear)
-two_ends v arc x false false = omega (arith, linear)
 
 -- an arc to name where there is none
 abbrev pub no_arc : ArcRow

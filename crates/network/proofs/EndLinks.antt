@@ -177,11 +177,9 @@ module _ (arcs arcs' : List ArcRow) (same : (end : ℕ) → end_node arcs' end �
   }
 
 pub slice_get-set_other : {X : Type 0} (l : List X) (i j : ℕ) (a : X) → j ≢ i → slice_get (set l i a) j ≡ slice_get l j
-slice_get-set_other [] i j a ne = refl
 slice_get-set_other (x ∷ l) zero zero a ne = absurd (ne refl)
-slice_get-set_other (x ∷ l) zero (suc j) a ne = refl
-slice_get-set_other (x ∷ l) (suc i) zero a ne = refl
 slice_get-set_other (x ∷ l) (suc i) (suc j) a ne = slice_get-set_other l i j a (λ e. ne (ap suc e))
+slice_get-set_other _ _ _ a ne = refl
 
 -- a row with the ends of the one that it replaces
 pub end_node-set : (arcs : List ArcRow) (k : ℕ) (row : ArcRow) → k < length arcs → row.tail ≡ (slice_index_or arcs k row).tail → row.head ≡ (slice_index_or arcs k row).head

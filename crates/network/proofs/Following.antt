@@ -1,5 +1,5 @@
 -- What edits that are made leave of an instance to the next edit: the arc with a number, and how many arcs there are.
-use Rattle.std.proofs.Common.{◌≡◌, ◌≢◌, ℕ, zero, suc, ◌+◌, ◌-◌, ◌<◌, ◌≤◌, ◌==◌, ℤ, pos, int_le, inl, inr, Bool, true, false, ◌&&◌, if◌then◌else◌, List, [], ◌∷◌, ◌++◌, length, length-set, set, get_or, slice_get, take, drop, Option, Some, None, Result, Ok, Err, refl, sym, ap, ◌∙◌, arith}
+use Rattle.std.proofs.Common.{◌≡◌, ◌≢◌, ℕ, zero, suc, ◌+◌, ◌-◌, ◌<◌, ◌≤◌, ◌==◌, ℤ, inl, inr, Bool, true, false, if◌then◌else◌, List, [], ◌∷◌, ◌++◌, length, length-set, set, get_or, slice_get, take, drop, Some, None, Result, Ok, Err, refl, sym, ap, ◌∙◌, arith}
 use Rattle.std.specs.Result.{is_ok, IsOk}
 use Rattle.std.proofs.lemmas.Bool.{false≢true, and_parts, ne_eqb}
 use Rattle.std.proofs.lemmas.Bool.Decides.{eqb_tells}
@@ -10,15 +10,13 @@ use Rattle.dimacs_text.specs.declared.command.Edit.TheVariants.{Cap, Low, Cost, 
 use Rattle.dimacs_text.specs.declared.problem.ArcRow.{ArcRow}
 use Rattle.dimacs_text.specs.declared.problem.TheConstants.{NODE_LIMIT, ARC_LIMIT}
 use Rattle.network.specs.declared.refusal.EditRefusal.{EditRefusal}
-use Rattle.network.specs.declared.refusal.EditRefusal.TheVariants.{OutOfRange, NoSuchNode, LowAboveCap, NotAcrossSides, TableFull, NotForKind}
 use Rattle.dimacs_lines.specs.Checks.{numbered}
 use Rattle.network.specs.Refusal.{number_of}
-use Rattle.network.specs.Edited.{EndsFit, SharesFrame, changed_if, count_after, edited, edited_all, edited_by, has_edit, has_room, is_across, is_new_row, is_node, outcome, row_after, row_or, tried, with_arc}
-use Rattle.network.specs.Instance.{Demand, Supplies, Terminals, Sides, Instance, IsLawful, arc_at, kind_of, with_supply}
+use Rattle.network.specs.Edited.{EndsFit, SharesFrame, changed_if, count_after, edited, edited_all, is_across, is_node, outcome, row_after, tried}
+use Rattle.network.specs.Instance.{Demand, Supplies, Instance, IsLawful, arc_at, kind_of, with_supply}
 use Rattle.network.proofs.EndLinks.{slice_get-set_other}
 use Rattle.network.proofs.EditedAll.{first_made, edited_one, edited_more, refused_more, edited_all-lawful}
-use Rattle.network.proofs.EditedShape.{done_is}
-use Rattle.network.proofs.EditedLemmas.{demand_ok, numbered_ok, node_from_test}
+use Rattle.network.proofs.EditedLemmas.{IsRowMade, Makes, edited_makes, node_from_test}
 
 -- ---- the arcs with another row, and with one more
 
@@ -50,9 +48,8 @@ pushed_last (arc ∷ arcs) row = pushed_last arcs row
 
 pushed_other : (arcs : List ArcRow) (k : ℕ) (row : ArcRow) → k ≢ length arcs → slice_get (arcs ++ row ∷ []) k ≡ slice_get arcs k
 pushed_other [] zero row ne = absurd (ne refl)
-pushed_other [] (suc k) row ne = refl
-pushed_other (arc ∷ arcs) zero row ne = refl
 pushed_other (arc ∷ arcs) (suc k) row ne = pushed_other arcs k row (λ e. ne (ap suc e))
+pushed_other _ _ row ne = refl
 
 row_pushed : (arcs : List ArcRow) (k : ℕ) (row : ArcRow) → (if length arcs + 1 == k then Some row else arc_at arcs k) ≡ arc_at (arcs ++ row ∷ []) k
 row_pushed arcs zero row = rw (ne_eqb (length arcs + 1) 0 (λ e. omega (arith, e))) refl
@@ -71,76 +68,42 @@ pub record Follows (edit : Edit) (I J : Instance) : Type 0 where
 same_frame : (I : Instance) (arcs : List ArcRow) → SharesFrame I (record I { arcs = arcs })
 same_frame I arcs = record { nodes = refl; room = refl; kind = refl; across = λ tail head. refl }
 
-abbrev RowFollows : ℕ → (ArcRow → ArcRow) → Instance → Instance → Type 0
-RowFollows j f I J = ((k : ℕ) → changed_if (j == k) f (arc_at I.arcs k) ≡ arc_at J.arcs k) × (length I.arcs ≡ length J.arcs) × SharesFrame I J
-
-at_row : (I after : Instance) (j : ℕ) (change : ArcRow → Result Instance EditRefusal) (f : ArcRow → ArcRow)
-    → ((row : ArcRow) → change row ≡ Ok after → after ≡ with_arc I j (f row)) → row_or (arc_at I.arcs j) change ≡ Ok after → RowFollows j f I after
-at_row I after j change f next e = by (arc_at I.arcs j) refl e
-  where
-    by : (o : Option ArcRow) → arc_at I.arcs j ≡ o → row_or o change ≡ Ok after → RowFollows j f I after
-    by None at e = absurd (cc e)
-    by (Some old) at e =
-        rw (next old e) ((λ k. row_set I.arcs j k old f at), sym (length-set I.arcs (j - 1) (f old)), same_frame I (set I.arcs (j - 1) (f old)))
+at_row : (I after : Instance) (j : ℕ) (met : ArcRow → Bool) (f : ArcRow → ArcRow) (edit : Edit) → ((k : ℕ) → row_after k (length I.arcs) (arc_at I.arcs k) edit ≡ changed_if (j == k) f (arc_at I.arcs k))
+    → count_after (length I.arcs) edit ≡ length I.arcs → IsRowMade j met f I after → Follows edit I after
+at_row I after j met f edit row count made = rw made.made record {
+  row = λ k. row k ∙ row_set I.arcs j k made.old f made.at;
+  arcs = count ∙ sym (length-set I.arcs (j - 1) (f made.old));
+  frame = same_frame I (set I.arcs (j - 1) (f made.old));
+}
 
 across_supply : (D : Demand) (v : ℕ) (value : ℤ) → (kind_of (with_supply D v value) ≡ kind_of D) × ((tail head : ℕ) → is_across (with_supply D v value) tail head ≡ is_across D tail head)
 across_supply (Supplies supplies) v value = (refl, λ tail head. refl)
-across_supply (Terminals source sink) v value = (refl, λ tail head. refl)
-across_supply (Sides marks) v value = (refl, λ tail head. refl)
+across_supply _ v value = (refl, λ tail head. refl)
 
-by_edit : (I : Instance) (edit : Edit) (after : Instance) → edited_by I edit ≡ Ok after → Follows edit I after
-by_edit I (Cap j most) after e =
-    let range = demand_ok _ OutOfRange _ after e in
-    let made = at_row I after j _ (λ row. record row { cap = most }) (λ row done. done_is _ after (demand_ok (int_le row.low most) LowAboveCap (Ok (with_arc I j (record row { cap = most }))) after done).1) range.1 in
-    record { row = made.0; arcs = made.1; frame = made.2 }
-by_edit I (Low j low) after e =
-    let range = demand_ok _ OutOfRange _ after e in
-    let made = at_row I after j _ (λ row. record row { low = low }) (λ row done. done_is _ after (demand_ok (int_le low row.cap) LowAboveCap (Ok (with_arc I j (record row { low = low }))) after done).1) range.1 in
-    record { row = made.0; arcs = made.1; frame = made.2 }
-by_edit I (Cost j cost) after e =
-    let range = demand_ok _ OutOfRange _ after e in
-    let made = at_row I after j _ (λ row. record row { cost = cost }) (λ row done. done_is _ after done) range.1 in
-    record { row = made.0; arcs = made.1; frame = made.2 }
-by_edit I (Supply v value) after e =
-    let range = demand_ok _ OutOfRange _ after e in
-    let node = demand_ok (is_node I.nodes v) NoSuchNode (Ok (record I { demand = with_supply I.demand v value })) after range.1 in
+by_edit : (I : Instance) (edit : Edit) (after : Instance) → Makes edit I after → Follows edit I after
+by_edit I (Cap j most) after made = at_row I after j _ _ (Cap j most) (λ k. refl) refl made.1
+by_edit I (Low j low) after made = at_row I after j _ _ (Low j low) (λ k. refl) refl made.1
+by_edit I (Cost j cost) after made = at_row I after j _ _ (Cost j cost) (λ k. refl) refl made.1
+by_edit I (Supply v value) after (range, node, made) =
     let same = across_supply I.demand v value in
-    rw (done_is _ after node.1) (record { row = λ k. refl; arcs = refl; frame = record { nodes = refl; room = refl; kind = same.0; across = same.1 } })
-by_edit I (Add tail head low most cost) after e =
-    let range = demand_ok (is_new_row (kind_of I.demand) low most cost) OutOfRange _ after e in
-    let nodes = demand_ok (is_node I.nodes tail && is_node I.nodes head) NoSuchNode _ after range.1 in
-    let order = demand_ok (int_le low most) LowAboveCap _ after nodes.1 in
-    let across = demand_ok (is_across I.demand tail head) NotAcrossSides _ after order.1 in
-    let room = demand_ok (has_room I) TableFull _ after across.1 in
+    rw made (record { row = λ k. refl; arcs = refl; frame = record { nodes = refl; room = refl; kind = same.0; across = same.1 } })
+by_edit I (Add tail head low most cost) after made =
     let row : ArcRow = record { tail = tail; head = head; low = low; cap = most; cost = cost } in
-    rw (done_is _ after room.1) (record { row = λ k. row_pushed I.arcs k row; arcs = (let l = length_push I.arcs row in omega arith); frame = same_frame I (I.arcs ++ row ∷ []) })
-by_edit I (Close j) after e =
-    let made = at_row I after j _ (λ row. record row { low = pos 0; cap = pos 0 }) (λ row done. done_is _ after done) e in
-    record { row = made.0; arcs = made.1; frame = made.2 }
-
-edit_is : (I : Instance) (edit : Edit) (after : Instance) → edited I edit ≡ Ok after → edited_by I edit ≡ Ok after
-edit_is I edit after e = (demand_ok (has_edit (kind_of I.demand) edit) NotForKind (edited_by I edit) after (numbered_ok (tried I edit) after e)).1
+    rw made.made (record { row = λ k. row_pushed I.arcs k row; arcs = (let l = length_push I.arcs row in omega arith); frame = same_frame I (I.arcs ++ row ∷ []) })
+by_edit I (Close j) after made = at_row I after j _ _ (Close j) (λ k. refl) refl made
 
 pub follows : (I : Instance) (edit : Edit) (after : Instance) → edited I edit ≡ Ok after → Follows edit I after
-follows I edit after e = by_edit I edit after (edit_is I edit after e)
+follows I edit after e = by_edit I edit after (edited_makes I edit after e).1
 
-ends_by : (I : Instance) (edit : Edit) (after : Instance) → IsLawful I → edited_by I edit ≡ Ok after → EndsFit edit
-ends_by I (Cap j most) after lawful e = tt
-ends_by I (Low j low) after lawful e = tt
-ends_by I (Cost j cost) after lawful e = tt
-ends_by I (Supply v value) after lawful e = tt
-ends_by I (Add tail head low most cost) after lawful e =
-    let range = demand_ok (is_new_row (kind_of I.demand) low most cost) OutOfRange _ after e in
-    let nodes = demand_ok (is_node I.nodes tail && is_node I.nodes head) NoSuchNode _ after range.1 in
-    let ends = and_parts (is_node I.nodes tail) (is_node I.nodes head) nodes.0 in
+ends_by : (I : Instance) (edit : Edit) (after : Instance) → IsLawful I → Makes edit I after → EndsFit edit
+ends_by I (Add tail head low most cost) after lawful made =
+    let ends = and_parts (is_node I.nodes tail) (is_node I.nodes head) made.ends in
     let few : I.nodes ≤ NODE_LIMIT = lawful.nodes.1 in
-    let at_tail = (node_from_test I.nodes tail ends.0).1 in
-    let at_head = (node_from_test I.nodes head ends.1).1 in
-    (omega (arith, few, at_tail), omega (arith, few, at_head))
-ends_by I (Close j) after lawful e = tt
+    (omega (arith, few, (node_from_test I.nodes tail ends.0).1), omega (arith, few, (node_from_test I.nodes head ends.1).1))
+ends_by I _ after lawful made = tt
 
 pub ends_fit : (I : Instance) (edit : Edit) (after : Instance) → IsLawful I → edited I edit ≡ Ok after → EndsFit edit
-ends_fit I edit after lawful e = ends_by I edit after lawful (edit_is I edit after e)
+ends_fit I edit after lawful e = ends_by I edit after lawful (edited_makes I edit after e).1
 
 -- ---- edits that are made together
 

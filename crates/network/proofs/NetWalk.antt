@@ -19,13 +19,12 @@ use Rattle.network.proofs.RunningSums.{abs-add}
 -- flows within the bounds are small
 pub flows_small : (n : ℕ) (D : Demand) (arcs : List ArcRow) (flow : List ℤ) → AllByRecursion (λ arc. IsLawfulRow n arc × ArcFits D arc) arcs → AllWithinBounds arcs flow → AllByRecursion (λ x. unsigned_abs x ≤ CAP_LIMIT) flow
 flows_small n D [] [] rows bounds = tt
-flows_small n D [] (x ∷ flow) rows bounds = absurd bounds
-flows_small n D (arc ∷ arcs) [] rows bounds = absurd bounds
 flows_small n D (arc ∷ arcs) (x ∷ flow) rows bounds =
     let low = rows.0.0.low in
     let cap = rows.0.0.limit in
     let here = bounds.0 in
     (omega (arith, ints), flows_small n D arcs flow rows.1 bounds.1)
+flows_small n D _ _ rows bounds = absurd bounds
 
 end_flow-small : (flow : List ℤ) (end : ℕ) → All (λ x. unsigned_abs x ≤ CAP_LIMIT) flow → unsigned_abs (end_flow flow end) ≤ CAP_LIMIT
 end_flow-small flow end small = by ((end % 2) == 0)

@@ -73,9 +73,7 @@ map-map h f (x ∷ xs) = ap (λ (ys : List _). h (f x) ∷ ys) (map-map h f xs)
 supplied : (marks : List NodeMark) (v : ℕ) → AllByRecursion IsSupply marks → supply_or marks v (pos 0) ≡ supply_at marks v
 supplied [] v all = refl
 supplied (Supply id value ∷ marks) v all = rw (supplied marks v all.1) refl
-supplied (Source id ∷ marks) v all = absurd all.0
-supplied (Sink id ∷ marks) v all = absurd all.0
-supplied (Side id ∷ marks) v all = absurd all.0
+supplied _ v all = absurd all.0
 
 same_either_way : {A : Type 0} (b : Bool) (x : A) → (if b then x else x) ≡ x
 same_either_way true x = refl
@@ -83,21 +81,18 @@ same_either_way false x = refl
 
 unsupplied : (marks : List NodeMark) (v : ℕ) → AllByRecursion IsTerminal marks → supply_or marks v (pos 0) ≡ pos 0
 unsupplied [] v all = refl
-unsupplied (Supply id value ∷ marks) v all = absurd all.0
 unsupplied (Source id ∷ marks) v all = rw (unsupplied marks v all.1) (same_either_way (id == v) (pos 0))
 unsupplied (Sink id ∷ marks) v all = rw (unsupplied marks v all.1) (same_either_way (id == v) (pos 0))
-unsupplied (Side id ∷ marks) v all = absurd all.0
+unsupplied _ v all = absurd all.0
 
 by_side : (marks : List NodeMark) (v : ℕ) → AllByRecursion IsSide marks → supply_or marks v (neg_ℤ (pos 1)) ≡ (if is_named v marks then pos 1 else neg_ℤ (pos 1))
 by_side [] v all = refl
-by_side (Supply id value ∷ marks) v all = absurd all.0
-by_side (Source id ∷ marks) v all = absurd all.0
-by_side (Sink id ∷ marks) v all = absurd all.0
 by_side (Side id ∷ marks) v all = rw (by_side marks v all.1) (by (id == v))
   where
     by : (b : Bool) → (if b then pos 1 else (if is_named v marks then pos 1 else neg_ℤ (pos 1))) ≡ (if (b || is_named v marks) then pos 1 else neg_ℤ (pos 1))
     by true = refl
     by false = refl
+by_side _ v all = absurd all.0
 
 is_named-by_sign : (b : Bool) → int_lt (pos 0) (if b then pos 1 else neg_ℤ (pos 1)) ≡ b
 is_named-by_sign true = refl
@@ -135,9 +130,7 @@ all-by_node P n f each k d below =
 
 marked-within : (mark : NodeMark) → HasLawfulSupply mark → IsWithin SUPPLY_LIMIT (marked_supply mark)
 marked-within (Supply id value) within = within
-marked-within (Source id) within = (omega (arith, ints), omega (arith, ints))
-marked-within (Sink id) within = (omega (arith, ints), omega (arith, ints))
-marked-within (Side id) within = (omega (arith, ints), omega (arith, ints))
+marked-within _ within = (omega (arith, ints), omega (arith, ints))
 
 either : (b : Bool) (x y : ℤ) → IsWithin SUPPLY_LIMIT x → IsWithin SUPPLY_LIMIT y → IsWithin SUPPLY_LIMIT (if b then x else y)
 either true x y within other = within
@@ -150,8 +143,7 @@ supply_or-within nodes (mark ∷ marks) v none lawful within =
 
 unmarked-within : (kind : Kind) → IsWithin SUPPLY_LIMIT (unmarked_supply kind)
 unmarked-within Min = (omega (arith, ints), omega (arith, ints))
-unmarked-within Max = (omega (arith, ints), omega (arith, ints))
-unmarked-within Asn = (omega (arith, ints), omega (arith, ints))
+unmarked-within _ = (omega (arith, ints), omega (arith, ints))
 
 pub made-within : (kind : Kind) (nodes : ℕ) (marks : List NodeMark) → AllByRecursion (IsLawfulMark nodes) marks → All (IsWithin SUPPLY_LIMIT) (made_supplies kind nodes marks)
 made-within kind nodes marks lawful = all-by_node (IsWithin SUPPLY_LIMIT) nodes _ (λ v. supply_or-within nodes marks v (unmarked_supply kind) lawful (unmarked-within kind))

@@ -15,13 +15,12 @@ reduced_total p = flow_sum (λ arc x. reduced_cost p arc *ℤ x)
 -- it is the cost and what the potentials make of the nets
 pub reduced_total-split : (p : ℕ → ℤ) (arcs : List ArcRow) (flow : List ℤ)
     → reduced_total p arcs flow ≡ total_cost arcs flow +ℤ flow_sum (λ arc x. (p arc.tail -ℤ p arc.head) *ℤ x) arcs flow
-reduced_total-split p [] flow = refl
-reduced_total-split p (arc ∷ arcs) [] = refl
 reduced_total-split p (arc ∷ arcs) (x ∷ flow) =
     let rest = reduced_total-split p arcs flow in
     let c : reduced_cost p arc ≡ arc.cost +ℤ (p arc.tail -ℤ p arc.head) = omega (arith, linear) in
     let product = ap (λ (k : ℤ). k *ℤ x) c ∙ add-mul arc.cost (p arc.tail -ℤ p arc.head) x in
     omega (arith, linear)
+reduced_total-split p _ _ = refl
 
 -- on each arc the certified flow is as cheap as any other within the bounds
 pub reduced_le : (p : ℕ → ℤ) (arc : ArcRow) (x y : ℤ) → FollowsSign p arc x → IsWithinBounds arc x → IsWithinBounds arc y → (reduced_cost p arc *ℤ x) ≤ℤ (reduced_cost p arc *ℤ y)

@@ -28,9 +28,8 @@ reduced_ends I lawful = go I.demand lawful.demand (ends_from_limits I.nodes I.de
   where
     go : (D : Demand) → DemandFits I.nodes D → AllByRecursion (λ arc. ((1 ≤ arc.tail) × (arc.tail ≤ I.nodes)) × ((1 ≤ arc.head) × (arc.head ≤ I.nodes))) I.arcs
         → AllByRecursion (λ arc. ((1 ≤ arc.tail) × (arc.tail ≤ I.nodes)) × ((1 ≤ arc.head) × (arc.head ≤ I.nodes))) (reduced_arcs D I.arcs)
-    go (Supplies s) fits ends = ends
     go (Terminals source sink) fits ends = ((fits.1, fits.0), ends)
-    go (Sides marks) fits ends = ends
+    go _ fits ends = ends
 
 -- ---- assignments
 

@@ -1,46 +1,32 @@
 -- The rows of a network: the return arc, where there is one, then the arcs.
-use Rattle.std.proofs.Common.{◌≡◌, ℕ, zero, suc, ◌+◌, ◌-◌, ◌*◌, ◌<◌, ◌≤◌, ℤ, List, [], ◌∷◌, ◌++◌, All, Option, replicate, None, Some, length, set, slice_index_or, refl, sym, ap, subst, ◌∙◌, arith}
-use Rattle.std.specs.Prelude.{SomeIff}
+use Rattle.std.proofs.Common.{◌≡◌, ℕ, suc, ◌+◌, ◌-◌, ◌*◌, ◌<◌, ◌≤◌, ℤ, List, [], ◌∷◌, ◌++◌, All, Option, replicate, None, Some, length, set, slice_index_or, refl, sym, ap, subst, ◌∙◌, arith}
 use Rattle.std.proofs.lemmas.List.{get_or_default, get_or-replicate, length-map, length-replicate, map-set}
 use Rattle.std.proofs.Math.ListN.{get_or-map}
 use Rattle.dimacs_text.specs.declared.problem.ArcRow.{ArcRow}
 use Rattle.dimacs_text.specs.declared.problem.TheConstants.{SUPPLY_LIMIT}
 use Rattle.dimacs_text.specs.Lawful.{IsWithin}
 use Rattle.network.specs.declared.Goal.{Goal}
-use Rattle.network.specs.declared.Goal.TheVariants.{LeastCost, GreatestFlow, Assignment}
+use Rattle.network.specs.declared.Goal.TheVariants.{LeastCost, GreatestFlow}
 use Rattle.network.specs.Ends.{AreEndLists}
-use Rattle.network.specs.Instance.{Demand, Supplies, Terminals, Sides, IsLawful, at_node, reduced_arcs, reduced_supply, return_arc}
+use Rattle.network.specs.Instance.{Demand, Supplies, IsLawful, at_node, reduced_arcs, reduced_supply, return_arc}
 use Rattle.network.specs.Rows.{return_arcs}
 use Rattle.network.specs.Representation.{arcs_in, demand_by, ends_in, front, instance_of, listed_end, return_rows, IsSound}
 
 pub rows_counted : (D : Demand) (arcs : List ArcRow) → return_arcs D + length arcs ≡ length (reduced_arcs D arcs)
 rows_counted (Supplies s) arcs = omega arith
-rows_counted (Terminals source sink) arcs = omega arith
-rows_counted (Sides marks) arcs = omega arith
+rows_counted _ arcs = omega arith
 
 -- ---- by what is asked for
-
-pub front_is : (goal : Goal) (supplies : List ℤ) → front goal ≡ return_arcs (demand_by goal supplies)
-front_is LeastCost supplies = refl
-front_is (GreatestFlow source sink) supplies = refl
-front_is Assignment supplies = refl
-
-pub front_few : (goal : Goal) → front goal ≤ 1
-front_few LeastCost = omega arith
-front_few (GreatestFlow source sink) = omega arith
-front_few Assignment = omega arith
 
 -- the rows of these arcs
 pub begun : (goal : Goal) (supplies : List ℤ) (arcs : List ArcRow) → return_rows goal ++ arcs ≡ reduced_arcs (demand_by goal supplies) arcs
 begun LeastCost supplies arcs = refl
-begun (GreatestFlow source sink) supplies arcs = refl
-begun Assignment supplies arcs = refl
+begun _ supplies arcs = refl
 
 -- the arcs among the rows of these arcs
 arcs_among : (goal : Goal) (supplies : List ℤ) (arcs : List ArcRow) → arcs_in goal (reduced_arcs (demand_by goal supplies) arcs) ≡ arcs
 arcs_among LeastCost supplies arcs = refl
-arcs_among (GreatestFlow source sink) supplies arcs = refl
-arcs_among Assignment supplies arcs = refl
+arcs_among _ supplies arcs = refl
 
 module _ (goal : Goal) (supplies : List ℤ) (rows arcs : List ArcRow) (are : rows ≡ reduced_arcs (demand_by goal supplies) arcs) where
   pub arcs_are : arcs_in goal rows ≡ arcs
@@ -48,9 +34,6 @@ module _ (goal : Goal) (supplies : List ℤ) (rows arcs : List ArcRow) (are : ro
 
   pub rows_again : rows ≡ reduced_arcs (demand_by goal supplies) (arcs_in goal rows)
   rows_again = are ∙ ap (reduced_arcs (demand_by goal supplies)) (sym arcs_are)
-
-  pub count_is : front goal + length arcs ≡ length rows
-  count_is = ap (λ (n : ℕ). n + length arcs) (front_is goal supplies) ∙ rows_counted (demand_by goal supplies) arcs ∙ ap (λ (r : List ArcRow). length r) (sym are)
 
   -- a network of these arcs
   pub sound_of : (nodes room : ℕ) (first next : List (Option ℕ)) (rows_room next_room : ℕ) → IsLawful (instance_of nodes goal supplies arcs room) → length supplies ≡ nodes
@@ -74,13 +57,11 @@ module _ (goal : Goal) (supplies : List ℤ) (rows arcs : List ArcRow) (are : ro
 
 pub rows_push : (D : Demand) (arcs : List ArcRow) (a : ArcRow) → reduced_arcs D arcs ++ a ∷ [] ≡ reduced_arcs D (arcs ++ a ∷ [])
 rows_push (Supplies s) arcs a = refl
-rows_push (Terminals source sink) arcs a = refl
-rows_push (Sides marks) arcs a = refl
+rows_push _ arcs a = refl
 
 pub rows_set : (goal : Goal) (supplies : List ℤ) (arcs : List ArcRow) (i : ℕ) (a : ArcRow) → set (reduced_arcs (demand_by goal supplies) arcs) (front goal + i) a ≡ reduced_arcs (demand_by goal supplies) (set arcs i a)
-rows_set LeastCost supplies arcs i a = (let none : 0 + i ≡ i = omega arith in ap (λ (n : ℕ). set arcs n a) none)
 rows_set (GreatestFlow source sink) supplies arcs i a = (let one : 1 + i ≡ suc i = omega arith in ap (λ (n : ℕ). set (return_arc source sink ∷ arcs) n a) one)
-rows_set Assignment supplies arcs i a = (let none : 0 + i ≡ i = omega arith in ap (λ (n : ℕ). set arcs n a) none)
+rows_set _ supplies arcs i a = (let none : 0 + i ≡ i = omega arith in ap (λ (n : ℕ). set arcs n a) none)
 
 -- the rows but the last, where there is an arc
 pub record IsLess (goal : Goal) (supplies : List ℤ) (rows : List ArcRow) (a : ArcRow) : Type 0 where
@@ -88,21 +69,14 @@ pub record IsLess (goal : Goal) (supplies : List ℤ) (rows : List ArcRow) (a : 
   pub arcs_are : arcs_in goal (rows ++ a ∷ []) ≡ arcs_in goal rows ++ a ∷ []
 
 pub rows_pop : (goal : Goal) (supplies : List ℤ) (rows : List ArcRow) (a : ArcRow) → rows ++ a ∷ [] ≡ reduced_arcs (demand_by goal supplies) (arcs_in goal (rows ++ a ∷ [])) → 0 < length (arcs_in goal (rows ++ a ∷ [])) → IsLess goal supplies rows a
-rows_pop LeastCost supplies rows a are some = record { rows_are = refl; arcs_are = refl }
 rows_pop (GreatestFlow source sink) supplies [] a are some = absurd (omega (arith, some))
 rows_pop (GreatestFlow source sink) supplies (r ∷ rows) a are some = record {
   rows_are = ap (λ (b : ArcRow). b ∷ rows) (ap (λ (all : List ArcRow). slice_index_or all 0 r) are);
   arcs_are = refl;
 }
-rows_pop Assignment supplies rows a are some = record { rows_are = refl; arcs_are = refl }
+rows_pop _ supplies rows a are some = record { rows_are = refl; arcs_are = refl }
 
 -- ---- lists of ends
-
-pub listed_is : (entry : ℕ) (end : Option ℕ) → SomeIff end (1 ≤ entry) (entry - 1) → end ≡ listed_end entry
-listed_is zero None none = refl
-listed_is zero (Some end) some = absurd (omega (arith, some.0))
-listed_is (suc entry) None none = absurd (none (omega arith))
-listed_is (suc entry) (Some end) some = (let is : end ≡ entry = omega (arith, some.1) in ap (λ (e : ℕ). Some e) is)
 
 pub entry_is : (entries : List ℕ) (i : ℕ) → listed_end (slice_index_or entries i 0) ≡ slice_index_or (ends_in entries) i None
 entry_is entries i = sym (get_or-map listed_end entries i 0)

@@ -1,5 +1,5 @@
 -- A loop that adds up a number over the arcs with their flows: the sum fits its type, as each term is small and there are few of them.
-use Rattle.std.proofs.Common.{◌≡◌, ◌⊎◌, inl, inr, ℕ, ◌+◌, ◌*◌, ◌^◌, ◌<◌, ◌≤◌, ℤ, pos, ◌+ℤ◌, List, [], ◌∷◌, length, unsigned_abs, FitsSigned, to_z, of_z, ap, arith}
+use Rattle.std.proofs.Common.{◌≡◌, ◌⊎◌, inl, inr, ℕ, ◌+◌, ◌*◌, ◌^◌, ◌<◌, ◌≤◌, ℤ, ◌+ℤ◌, List, [], ◌∷◌, length, unsigned_abs, FitsSigned, to_z, of_z, ap, arith}
 use Rattle.std.proofs.lemmas.Int.{ints, to_z-of_z, fits_signed_from_abs}
 use Rattle.std.specs.List.{AllZip}
 use mir.Syntax.{Width}
@@ -16,9 +16,6 @@ pub record IsSumSoFar (f : ArcRow → ℤ → ℤ) (most : ℕ) (whole : ℤ) (c
   pub sum : total +ℤ flow_sum f arcs flow ≡ whole
   pub size : unsigned_abs total + most * length arcs ≤ most * count
   pub terms : AllZip (λ arc x. unsigned_abs (f arc x) ≤ most) arcs flow
-
-pub sum_starts : (f : ArcRow → ℤ → ℤ) (most : ℕ) (arcs : List ArcRow) (flow : List ℤ) → AllZip (λ arc x. unsigned_abs (f arc x) ≤ most) arcs flow → IsSumSoFar f most (flow_sum f arcs flow) (length arcs) (pos 0) arcs flow
-sum_starts f most arcs flow terms = record { sum = omega (arith, linear); size = omega arith; terms = terms }
 
 module _ (w : Width) (f : ArcRow → ℤ → ℤ) (most : ℕ) (whole : ℤ) (count : ℕ) (total term : ℤ) (arcs arcs' : List ArcRow) (flow flow' : List ℤ) (arc : ArcRow) (x : ℤ) where
   pub sum_step : IsSumSoFar f most whole count total arcs flow → arcs ≡ arc ∷ arcs' → flow ≡ x ∷ flow' → term ≡ f arc x → most * count < 2 ^ hbits w

@@ -1,5 +1,5 @@
 -- Sums over arcs, over arcs with their flows, and over nodes.
-use Rattle.std.proofs.Common.{◌≡◌, ◌≢◌, ℕ, zero, suc, ◌<◌, ◌≤◌, ◌==◌, ℤ, pos, ◌+ℤ◌, ◌-ℤ◌, ◌≤ℤ◌, Bool, true, false, if◌then◌else◌, List, [], ◌∷◌, refl, sym, ap, ◌∙◌, arith, ne_eqb, eqb-true, eq-eqb, true≢false}
+use Rattle.std.proofs.Common.{◌≡◌, ◌≢◌, ℕ, zero, suc, ◌<◌, ◌≤◌, ◌==◌, ℤ, pos, ◌+ℤ◌, ◌-ℤ◌, ◌≤ℤ◌, Bool, true, false, if◌then◌else◌, List, ◌∷◌, refl, sym, ap, ◌∙◌, arith, ne_eqb, eqb-true, eq-eqb, true≢false}
 use Rattle.std.proofs.lemmas.Int.{ints}
 use Rattle.dimacs_text.specs.declared.problem.ArcRow.{ArcRow}
 use Rattle.network.specs.Flow.{flow_sum, nodes_sum}
@@ -7,9 +7,8 @@ use Rattle.network.specs.Flow.{flow_sum, nodes_sum}
 -- ---- over arcs with their flows
 
 pub flow_sum-sub : (f g : ArcRow → ℤ → ℤ) (arcs : List ArcRow) (flow : List ℤ) → flow_sum f arcs flow -ℤ flow_sum g arcs flow ≡ flow_sum (λ a x. f a x -ℤ g a x) arcs flow
-flow_sum-sub f g [] flow = refl
-flow_sum-sub f g (a ∷ arcs) [] = refl
 flow_sum-sub f g (a ∷ arcs) (x ∷ flow) = let h = flow_sum-sub f g arcs flow in omega (arith, ints)
+flow_sum-sub f g _ _ = refl
 
 -- ---- over nodes
 

@@ -1,5 +1,5 @@
 -- More of a list that takes another end: with none, with one of the two, and behind other values.
-use Rattle.std.proofs.Common.{◌≡◌, ℕ, suc, ◌+◌, ◌-◌, ◌≤◌, List, [], ◌∷◌, ◌++◌, length, take, drop, sym, ap, ◌∙◌, arith, append_assoc, append-nil, length-append, ◌⊎◌, inl, inr}
+use Rattle.std.proofs.Common.{◌≡◌, ℕ, suc, ◌+◌, ◌-◌, ◌≤◌, List, [], ◌∷◌, ◌++◌, length, take, drop, ap, ◌∙◌, arith, append_assoc, append-nil, length-append}
 use Rattle.std.proofs.lemmas.List.{take_all, drop_at}
 use Rattle.session.specs.Places.{AreWithin, exchanged, ended, end_of}
 use Rattle.session.specs.PlacesLaws.{length-exchanged}
@@ -12,11 +12,6 @@ module _ {X : Type 0} where
       ap (λ k. drop (k - n) (exchanged places xs)) (length-exchanged places xs)
       ∙ ap (drop (length xs - n)) (exchanged-front places n [] xs fits within)
       ∙ drop_at (exchanged places (take (length xs - n) xs)) (end_of n xs) (length xs - n) (length-exchanged_front places n [] xs fits within)
-
-  -- where values only come, or only go, they may come before the others go
-  pub come_then_go : (n : ℕ) (come xs : List X) → (n ≡ 0) ⊎ (come ≡ []) → ended n [] (xs ++ come) ≡ ended n come xs
-  come_then_go n come xs (inl none) = rw none (ap (λ zs. zs ++ []) (take_all (length (xs ++ come) - 0) (xs ++ come) (omega arith)) ∙ append-nil (xs ++ come) ∙ ap (λ zs. zs ++ come) (sym (take_all (length xs - 0) xs (omega arith))))
-  come_then_go n come xs (inr none) = rw none (ap (λ zs. ended n [] zs) (append-nil xs))
 
   -- with the end that the list has it is as it was
   pub ended_none : (xs : List X) → ended 0 [] xs ≡ xs

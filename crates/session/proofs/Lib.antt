@@ -22,4 +22,3 @@ mod Marked
 mod Moves
 pub mod Apart
 mod Stepping
-mod Turning

@@ -141,8 +141,7 @@ arc_gone n _ e = refl
 
 supplies_now : (v : ℕ) (value : ℤ) (D : Demand) → supplies_in (with_supply D v value) ≡ set (supplies_in D) (v - 1) value
 supplies_now v value (Supplies xs) = refl
-supplies_now v value (Terminals source sink) = refl
-supplies_now v value (Sides marks) = refl
+supplies_now v value _ = refl
 
 -- it leaves what is at other places
 passed_arc : (p : Part) (I : Instance) (j : ℕ) (d : ArcRow) → CanTakeBack p I → j < length (before_part p I).arcs → (place_of_part p ≡ OfArc (j + 1) → ⊥) → get_or (before_part p I).arcs j d ≡ get_or I.arcs j d
@@ -204,8 +203,7 @@ kind_before (Supply v value ∷ log) I = same_kind (before_all log I).demand ∙
   where
     same_kind : (D : Demand) → kind_of (with_supply D v value) ≡ kind_of D
     same_kind (Supplies xs) = refl
-    same_kind (Terminals source sink) = refl
-    same_kind (Sides marks) = refl
+    same_kind _ = refl
 kind_before (_ ∷ log) I = kind_before log I
 
 -- the demand with other supplies
@@ -216,15 +214,13 @@ with_supplies (Sides marks) xs = Sides marks
 
 demand_passed : (v : ℕ) (value : ℤ) (D E : Demand) → with_supplies E (supplies_in D) ≡ D → with_supplies E (supplies_in (with_supply D v value)) ≡ with_supply D v value
 demand_passed v value (Supplies xs) (Supplies ys) same = refl
-demand_passed v value (Supplies xs) (Terminals source sink) same = absurd (cc same)
-demand_passed v value (Supplies xs) (Sides marks) same = absurd (cc same)
 demand_passed v value (Terminals source sink) E same = same
 demand_passed v value (Sides marks) E same = same
+demand_passed v value (Supplies xs) _ same = absurd (cc same)
 
 demand_same : (D : Demand) → with_supplies D (supplies_in D) ≡ D
 demand_same (Supplies xs) = refl
-demand_same (Terminals source sink) = refl
-demand_same (Sides marks) = refl
+demand_same _ = refl
 
 pub demand_before : (log : List Part) (I : Instance) → with_supplies I.demand (supplies_in (before_all log I).demand) ≡ (before_all log I).demand
 demand_before [] I = demand_same I.demand
@@ -278,9 +274,7 @@ module _ (n : ℕ) where
     where
       other_arc : (nodes : ℕ) (p : Part) (k : ℕ) → k ≤ n → (is_there n p ≡ true → rank nodes p ≢ nodes + k) → place_of_part p ≡ OfArc k → ⊥
       other_arc nodes (Arc j row) k inside other same = (let is : j ≡ k = cc in other (le-leb j n (omega (arith, is, inside))) (ap (λ (i : ℕ). nodes + i) is))
-      other_arc nodes (Supply v value) k inside other same = cc
-      other_arc nodes Last k inside other same = cc
-      other_arc nodes (Gone row flow) k inside other same = cc
+      other_arc nodes _ k inside other same = cc
 
   pub supply_kept : (log : List Part) (I : Instance) (j : ℕ) (d : ℤ) → CanTakeBackAll log I → (Contains (filter_map node_at log) (j + 1) → ⊥) → get_or (supplies_in I.demand) j d ≡ get_or (supplies_in (before_all log I).demand) j d
   supply_kept [] I j d can other = refl
@@ -303,9 +297,7 @@ module _ (n : ℕ) where
     where
       other_node : (nodes : ℕ) (p : Part) (v : ℕ) → (is_there n p ≡ true → rank nodes p ≢ v) → place_of_part p ≡ OfNode v → ⊥
       other_node nodes (Supply u value) v other same = other refl cc
-      other_node nodes (Arc j row) v other same = cc
-      other_node nodes Last v other same = cc
-      other_node nodes (Gone row flow) v other same = cc
+      other_node nodes _ v other same = cc
 
 -- ---- parts by their ranks
 
@@ -314,18 +306,16 @@ module _ (nodes n : ℕ) where
   abbrev IsPlaced : Part → Type 0
   IsPlaced (Arc k row) = (1 ≤ k) × (k ≤ n)
   IsPlaced (Supply id value) = (1 ≤ id) × (id ≤ nodes)
-  IsPlaced Last = ⊥
-  IsPlaced (Gone row flow) = ⊥
+  IsPlaced _ = ⊥
 
   same_place : (p q : Part) → IsPlaced p → IsPlaced q → rank nodes q ≡ rank nodes p → place_of_part q ≡ place_of_part p
   same_place (Arc k row) (Arc j other) at_p at_q same = ap OfArc (omega (arith, same))
   same_place (Arc k row) (Supply id value) at_p at_q same = absurd (omega (arith, same, at_p.0, at_q.1))
   same_place (Supply id value) (Arc j other) at_p at_q same = absurd (omega (arith, same, at_p.1, at_q.0))
   same_place (Supply id value) (Supply v other) at_p at_q same = ap OfNode same
-  same_place p Last at_p at_q same = absurd at_q
-  same_place p (Gone row flow) at_p at_q same = absurd at_q
   same_place Last q at_p at_q same = absurd at_p
   same_place (Gone row flow) q at_p at_q same = absurd at_p
+  same_place p _ at_p at_q same = absurd at_q
 
   node_rank : (p : Part) (k : ℕ) → node_at p ≡ Some k → rank nodes p ≡ k
   node_rank (Supply id value) k is = some_is id k is
@@ -343,8 +333,7 @@ module _ (nodes n : ℕ) where
     abbrev IsValued : Part → Type 0
     IsValued (Arc k row) = get_or rows (k - 1) no_row ≡ row
     IsValued (Supply id value) = get_or xs (id - 1) (pos 0) ≡ value
-    IsValued Last = ⊥
-    IsValued (Gone row flow) = ⊥
+    IsValued _ = ⊥
 
     abbrev IsIn : Part → Type 0
     IsIn p = IsPlaced p × IsValued p
@@ -394,9 +383,7 @@ supplied (q ∷ log) I p k lawful can (zero, below, at) is = here q (ap node_at 
   where
     here : (q : Part) → node_at q ≡ Some k → CanTakeBack q (before_all log I) → length (supplies_in I.demand) ≡ I.nodes
     here (Supply v value) e can_q = (supplies_are I.nodes I.demand lawful.demand (sym (kind_before log I) ∙ can_q.0)).0
-    here (Arc j row) e can_q = cc
-    here Last e can_q = cc
-    here (Gone row flow) e can_q = cc
+    here _ e can_q = cc
 supplied (q ∷ log) I p k lawful can (suc i, below, at) is = supplied log I p k lawful can.0 (i, omega arith, at) is
 
 pub arcs_there : (n : ℕ) (log : List Part) (I : Instance) → CanTakeBackAll log I → ArePlaces n (filter_map (arc_at n) log)
@@ -409,9 +396,7 @@ arcs_there n log I can =
       | inl there ↦ rw (some_is j k (rw there at is)) at at
       | inr new ↦ cc
     ]
-    within (Supply v value) at k is = cc
-    within Last at k is = cc
-    within (Gone row flow) at k is = cc
+    within _ at k is = cc
 
 pub nodes_there : (n : ℕ) (log : List Part) (I : Instance) → IsLawful I → CanTakeBackAll log I → ArePlaces (length (supplies_in I.demand)) (filter_map node_at log)
 nodes_there n log I lawful can =
@@ -424,9 +409,7 @@ nodes_there n log I lawful can =
   where
     within : (p : Part) → IsPlaced I.nodes n p → (k : ℕ) → node_at p ≡ Some k → (1 ≤ k) × (k ≤ I.nodes)
     within (Supply v value) at k is = rw (some_is v k is) at at
-    within (Arc j row) at k is = cc
-    within Last at k is = cc
-    within (Gone row flow) at k is = cc
+    within _ at k is = cc
 
 -- ---- the parts that were logged
 
@@ -483,8 +466,7 @@ module _ (I J : Instance) (log firsts : List Part) (of : AreOf I J log firsts) w
   valued_by (Supply v x) c at found =
       let many = supplied log J (Supply v x) v of.lawful of.leads.can (Contains-filter (is_there n) log (Supply v x) c) refl in
       rw of.leads.back at (supply_before n nodes log J v x (pos 0) of.leads.can at.0 (omega (arith, at.1, many)) found)
-  valued_by Last c at found = absurd at
-  valued_by (Gone row flow) c at found = absurd at
+  valued_by _ c at found = absurd at
 
   all_in : All (IsIn nodes n xs I.arcs) firsts
   all_in k d below =

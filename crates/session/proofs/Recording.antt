@@ -5,7 +5,7 @@ use Rattle.std.specs.List.{All, filter}
 use Rattle.std.specs.Option.{unwrap_or}
 use Rattle.std.proofs.lemmas.List.{take_all, drop_all, take_at, append-nil}
 use Rattle.network.specs.Flow.{IsPotential}
-use Rattle.network.specs.Instance.{Demand, Supplies, Terminals, Sides, Instance}
+use Rattle.network.specs.Instance.{Demand, Supplies, Instance}
 use Rattle.network.proofs.Answering.{potentials_from}
 use Rattle.flow_solver.specs.declared.verdict.Verdict.{Verdict}
 use Rattle.flow_solver.specs.Moment.{Moment, VerdictFits, returned}
@@ -75,8 +75,7 @@ nodes_same N I J back = ap (λ (K : Instance). K.nodes) back
 -- other supplies leave the return arc where it is
 count_same : (places : List (ℕ × ℤ)) (demand : Demand) → return_arcs (demand_swapped places demand) ≡ return_arcs demand
 count_same places (Supplies supplies) = refl
-count_same places (Terminals source sink) = refl
-count_same places (Sides marks) = refl
+count_same places _ = refl
 
 -- what can be told is the same before the edits
 told_before : (N : Named) (I before : Instance) (verdict : Verdict) → instance_swapped N I ≡ before → VerdictFits before.demand verdict → VerdictFits I.demand verdict

@@ -1,21 +1,20 @@
 -- The parts taken one after the other leave what the parts in their normal form leave.
-use Rattle.std.proofs.Common.{◌≡◌, ℕ, zero, suc, ◌+◌, ◌-◌, ◌<◌, ◌≤◌, ℤ, pos, List, [], ◌∷◌, ◌++◌, length, get_or, set, take, drop, to_z, of_z, w64, refl, sym, ap, ap₂, subst, ◌∙◌, arith, inl, inr, ◌⊎◌, append-nil, append_assoc, length-append, length-drop, length-set, get_or-set_other}
+use Rattle.std.proofs.Common.{◌≡◌, ℕ, zero, suc, ◌+◌, ◌-◌, ◌<◌, ◌≤◌, ℤ, pos, List, [], ◌∷◌, ◌++◌, length, get_or, set, take, drop, refl, sym, ap, ap₂, subst, ◌∙◌, arith, inl, inr, ◌⊎◌, append-nil, append_assoc, length-append, length-set, get_or-set_other}
 use Rattle.std.proofs.Math.ListN.{replicate}
 use Rattle.std.specs.List.{All}
-use Rattle.std.proofs.lemmas.Int.{ints}
-use Rattle.std.proofs.lemmas.List.{get_or_default, drop_all, take_more, same_from_push, drop_more, take_more_set, drop-set-lt, take_all, nil_from_length}
+use Rattle.std.proofs.lemmas.List.{drop_all, take_more, same_from_push, drop_more, take_all, nil_from_length}
 use Rattle.dimacs_text.specs.declared.problem.ArcRow.{ArcRow}
 use Rattle.dimacs_text.specs.declared.problem.TheConstants.{ARC_LIMIT, SUPPLY_LIMIT}
 use Rattle.dimacs_text.specs.Lawful.{IsWithin}
-use Rattle.network.specs.Instance.{Demand, Supplies, Terminals, Sides, Instance, DemandFits, IsLawful, numbered_flow, with_supply}
+use Rattle.network.specs.Instance.{Demand, Supplies, Instance, DemandFits, IsLawful, with_supply}
 use Rattle.flow_solver.specs.Moment.{Moment}
 use Rattle.flow_solver.specs.TablesView.{IsFlowValue, IsRowOf, HasEnds, supplies_in}
 use Rattle.flow_solver.specs.declared.part.Part.{Part}
 use Rattle.flow_solver.specs.declared.part.Part.TheVariants.{Arc, Supply, Last, Gone}
 use Rattle.session.specs.Places.{PlacesFit, exchanged, taken, ended, end_of}
 use Rattle.session.specs.PlacesLaws.{length-exchanged, taken-set, IsElsewhere, rising_head, rising_tail}
-use Rattle.session.proofs.Endings.{end_of-exchanged, ended_none, come_then_go}
-use Rattle.session.specs.Parts.{Named, named, supply_parts, arc_parts, gone_parts, listed, flow_of, demand_swapped, named_turned, parts_swapped, NamedFit, PartsFit, no_row, put_in, left_by, next_after, PartFits, cut_off}
+use Rattle.session.proofs.Endings.{end_of-exchanged}
+use Rattle.session.specs.Parts.{Named, named, supply_parts, arc_parts, gone_parts, listed, flow_of, demand_swapped, named_turned, NamedFit, PartsFit, no_row, put_in, left_by, next_after, PartFits, cut_off}
 use Rattle.session.specs.PartsLaws.{row_for, demand_fits-swapped, supplies_within}
 use Rattle.session.proofs.Supplies.{has_supply}
 use Rattle.session.specs.ReturnLaws.{numbered-swapped}
@@ -49,25 +48,6 @@ pub record IsRun (next i : ℕ) (now : List Part) (m : Moment) (left : List Part
 pub run_start : (next : ℕ) (ps : List Part) (m : Moment) (left : List Part) (end : Moment) → Runs next ps m left end → IsRun next 0 ps m left end
 run_start next ps m left end runs = record { can = runs.can; parts = runs.parts; moment = runs.moment }
 
--- the next part can be exchanged
-pub run_fits : (next i : ℕ) (now : List Part) (m : Moment) (left : List Part) (end : Moment) (d : Part) → i < length now → IsRun next i now m left end → PartFits next (get_or now i d) m
-run_fits next i now m left end d below run = (subst (λ ps. CanRun next ps m) (drop_more now i d below) run.can).0
-
-pub run_more : (next i : ℕ) (now : List Part) (m : Moment) (left : List Part) (end : Moment) (d : Part) → i < length now → IsRun next i now m left end → IsRun (next_after next (get_or now i d)) (i + 1) (set now i (left_by next (get_or now i d) m)) (put_in (get_or now i d) m) left end
-run_more next i now m left end d below run =
-    let p : Part = get_or now i d in
-    let rest = drop_more now i d below in
-    let rest_now : drop (i + 1) (set now i (left_by next p m)) ≡ drop (i + 1) now = drop-set-lt (i + 1) now i (left_by next p m) (omega arith) in
-    record {
-      can = rw rest_now (subst (λ ps. CanRun next ps m) rest run.can).1;
-      parts =
-          ap₂ (λ qs ps. qs ++ run_parts (next_after next p) ps (put_in p m)) (take_more_set now i (left_by next p m) below) rest_now
-          ∙ append_assoc (take i now) (left_by next p m ∷ []) (run_parts (next_after next p) (drop (i + 1) now) (put_in p m))
-          ∙ ap (λ ps. take i now ++ run_parts next ps m) (sym rest)
-          ∙ run.parts;
-      moment = ap (λ ps. run_moment ps (put_in p m)) rest_now ∙ ap (λ ps. run_moment ps m) (sym rest) ∙ run.moment;
-    }
-
 pub run_end : (next i : ℕ) (now : List Part) (m : Moment) (left : List Part) (end : Moment) → length now ≤ i → IsRun next i now m left end → (now ≡ left) × (m ≡ end)
 run_end next i now m left end all run =
     let none = drop_all i now all in (
@@ -79,23 +59,19 @@ run_end next i now m left end all run =
 
 demand_kept : (demand : Demand) → demand_swapped [] demand ≡ demand
 demand_kept (Supplies supplies) = refl
-demand_kept (Terminals source sink) = refl
-demand_kept (Sides marks) = refl
+demand_kept _ = refl
 
 demand_more : (p : ℕ × ℤ) (places : List (ℕ × ℤ)) (demand : Demand) → demand_swapped places (with_supply demand p.0 p.1) ≡ demand_swapped (p ∷ places) demand
 demand_more p places (Supplies supplies) = refl
-demand_more p places (Terminals source sink) = refl
-demand_more p places (Sides marks) = refl
+demand_more p places _ = refl
 
 demand_one : (p : ℕ × ℤ) (demand : Demand) → with_supply demand p.0 p.1 ≡ demand_swapped (p ∷ []) demand
 demand_one p (Supplies supplies) = refl
-demand_one p (Terminals source sink) = refl
-demand_one p (Sides marks) = refl
+demand_one p _ = refl
 
 supplies_put : (p : ℕ × ℤ) (demand : Demand) → supplies_in (with_supply demand p.0 p.1) ≡ set (supplies_in demand) (p.0 - 1) p.1
 supplies_put p (Supplies supplies) = refl
-supplies_put p (Terminals source sink) = refl
-supplies_put p (Sides marks) = refl
+supplies_put p _ = refl
 
 abbrev with_demand : Moment → Demand → Moment
 with_demand m demand = record m { instance = record m.instance { demand = demand } }
@@ -171,8 +147,6 @@ run_gone next [] [] m same room are_rows are_flows = record {
   parts = refl;
   moment = sym (ap₂ (λ (xs : List ArcRow) (ys : List ℤ). record m { instance = record m.instance { arcs = xs }; flow = ys }) (append-nil m.instance.arcs) (append-nil m.flow));
 }
-run_gone next [] (flow ∷ flows) m same room are_rows are_flows = absurd (omega arith)
-run_gone next (row ∷ rows) [] m same room are_rows are_flows = absurd (omega arith)
 run_gone next (row ∷ rows) (flow ∷ flows) m same room are_rows are_flows =
     let now : Moment = grown m (row ∷ []) (flow ∷ []) in
     let rest = run_gone next rows flows now (omega arith) (omega (arith, length-append m.instance.arcs (row ∷ []))) (λ k d below. are_rows (suc k) d (omega arith)) (λ k d below. are_flows (suc k) d (omega arith)) in
@@ -181,6 +155,7 @@ run_gone next (row ∷ rows) (flow ∷ flows) m same room are_rows are_flows =
       parts = ap (λ ps. Last ∷ ps) rest.parts;
       moment = rest.moment ∙ ap₂ (λ (xs : List ArcRow) (ys : List ℤ). record m { instance = record m.instance { arcs = xs }; flow = ys }) (append_assoc m.instance.arcs (row ∷ []) rows) (append_assoc m.flow (flow ∷ []) flows);
     }
+run_gone next _ _ m same room are_rows are_flows = absurd (omega arith)
 
 -- arcs are read one after the other
 run_last : (n next : ℕ) (m : Moment) → next + n ≡ length m.instance.arcs → next + n ≡ length (flow_of m) → length m.instance.arcs ≤ ARC_LIMIT → Runs next (replicate n Last) m (gone_parts (drop next m.instance.arcs) (drop next (flow_of m))) m
@@ -211,22 +186,12 @@ run_end_parts go rows flows m (inr none) same one go_there room few are_rows are
 
 -- ---- the whole
 
-flows_end : (go : ℕ) (rows : List ArcRow) (flows : List ℤ) → (go ≡ 0) ⊎ (rows ≡ []) → length flows ≡ length rows → (go ≡ 0) ⊎ (flows ≡ [])
-flows_end go rows flows (inl none) same = inl none
-flows_end go rows flows (inr none) same = inr (nil_from_length flows (omega (arith, ap length none)))
-
 -- the moment before the arcs that go are dropped
 abbrev pub all_put : Named → Moment → Moment
 all_put N m = record m {
   instance = record m.instance { demand = demand_swapped N.supplies m.instance.demand; arcs = exchanged N.rows m.instance.arcs ++ N.come_rows };
   flow = m.flow ++ N.come_flows;
 }
-
--- the numbered arcs have no more flows than there are
-numbered_fewer : (demand : Demand) (flow : List ℤ) → length (numbered_flow demand flow) ≤ length flow
-numbered_fewer (Supplies supplies) flow = omega arith
-numbered_fewer (Terminals source sink) flow = omega (arith, length-drop 1 flow)
-numbered_fewer (Sides marks) flow = omega arith
 
 module _ (ps : List Part) (m : Moment) (fits : PartsFit ps m.instance) (lawful : IsLawful m.instance) (one : length (flow_of m) ≡ length m.instance.arcs) where
   abbrev N : Named
@@ -257,20 +222,7 @@ module _ (ps : List Part) (m : Moment) (fits : PartsFit ps m.instance) (lawful :
   pub rows_there : N.go ≤ length (all_put N m).instance.arcs
   rows_there = omega (arith, fits.fit.go, length-append (exchanged N.rows m.instance.arcs) N.come_rows, length-exchanged N.rows m.instance.arcs)
 
-  pub flows_there : N.go ≤ length (all_put N m).flow
-  flows_there = omega (arith, fits.fit.go, one, numbered_fewer m.instance.demand m.flow, length-append m.flow N.come_flows)
-
-  pub cut_is : cut_off N.go (all_put N m) ≡ parts_swapped N m
-  cut_is =
-      let fit : NamedFit N m.instance = fits.fit in
-      ap₂ (λ (xs : List ArcRow) (ys : List ℤ). record m { instance = record m.instance { demand = demand_swapped N.supplies m.instance.demand; arcs = xs }; flow = ys })
-      (come_then_go N.go N.come_rows (exchanged N.rows m.instance.arcs) fit.one_end)
-      (come_then_go N.go N.come_flows m.flow (flows_end N.go N.come_rows N.come_flows fit.one_end fit.one_flow))
-
 -- ---- the arcs that go are dropped
-
-pub cut_none : (m : Moment) → m ≡ cut_off 0 m
-cut_none m = sym (ap₂ (λ (xs : List ArcRow) (ys : List ℤ). record m { instance = record m.instance { arcs = xs }; flow = ys }) (ended_none m.instance.arcs) (ended_none m.flow))
 
 cut_one : {X : Type 0} (xs ys zs : List X) (y : X) (i : ℕ) → i < length xs → zs ≡ ended i [] xs → zs ≡ ys ++ y ∷ [] → ys ≡ ended (i + 1) [] xs
 cut_one xs ys zs y i below zs_is split =
@@ -289,16 +241,6 @@ cut_more m now next row flow i below below_flow now_is rows flows rest =
     (cut_one m.flow next.flow now.flow flow i below_flow (ap (λ (k : Moment). k.flow) now_is) flows)
     ∙ ap (λ (xs : List ArcRow). record now { instance = record now.instance { arcs = xs }; flow = ended (i + 1) [] m.flow }) arcs
     ∙ ap (λ (k : Moment). record k { instance = record k.instance { arcs = ended (i + 1) [] m.instance.arcs }; flow = ended (i + 1) [] m.flow }) now_is
-
--- a value within the limit is its own 64 bits
-within_as_bits : (x : ℤ) → IsWithin SUPPLY_LIMIT x → to_z w64 (of_z w64 x) ≡ x
-within_as_bits x within = omega (arith, ints)
-
--- the supply that a node has
-pub supply_as_bits : (xs : List ℤ) (i : ℕ) (d e x : ℤ) → i < length xs → IsWithin SUPPLY_LIMIT (get_or xs i e) → x ≡ get_or xs i d → to_z w64 (of_z w64 x) ≡ get_or xs i e
-supply_as_bits xs i d e x there within is_x =
-    let same : x ≡ get_or xs i e = is_x ∙ get_or_default xs i d e there in
-    within_as_bits x (rw same within) ∙ same
 
 length-run_parts : (next : ℕ) (ps : List Part) (m : Moment) → length (run_parts next ps m) ≡ length ps
 length-run_parts next [] m = refl

@@ -2,7 +2,7 @@ use Rattle.std.proofs.Common.{◌-◌}
 use Rattle.dimacs_io.specs.Device.{text_of}
 use Rattle.runs.proofs.SourceLemmas.{UsesSource-none, UsesSource-whole}
 use Rattle.session.specs.Step.{state_of}
-use Rattle.engines.proofs.OpeningLemmas.{unopened_commands, unopened_sink, unopened_whole}
+use Rattle.engines.proofs.OpeningLemmas.{unopened, unopened_sink}
 use Rattle.engines.proofs.SessionLemmas.{FlushesOnDevices-served, FlushesOnDevices-unopened, SessionOnDevices-served, SessionOnDevices-unopened}
 use Rattle.engines.proofs.interaction.run_session.Goals as goal
 
@@ -11,13 +11,10 @@ use Rattle.engines.proofs.interaction.run_session.Goals as goal
 pub returns-in-Err-clause-session : goal.returns-in-Err-clause-session
 returns-in-Err-clause-session g c = SessionOnDevices-unopened c.in-Err.end c.args.extra _ _ _ _ _ c.in-Err.ensures.ended.ended
 
-pub returns-in-Err-clause-problem : goal.returns-in-Err-clause-problem
-returns-in-Err-clause-problem g c = c.in-Err.ensures.ended.source
-
 pub returns-in-Err-clause-script : goal.returns-in-Err-clause-script
 returns-in-Err-clause-script g c =
     let ends = c.in-Err.ensures.ended.ended in
-    UsesSource-none g.C.Source _ _ c.args.script.now (unopened_whole _ _ c.in-Err.end ends) (unopened_commands _ _ c.in-Err.end ends)
+    UsesSource-none g.C.Source _ _ c.args.script.now (unopened _ _ c.in-Err.end ends).1 (unopened _ _ c.in-Err.end ends).0
 
 pub returns-in-Err-clause-out : goal.returns-in-Err-clause-out
 returns-in-Err-clause-out g c = unopened_sink g.O.Sink _ _ c.in-Err.end c.args.out.now c.in-Err.ensures.ended.ended

@@ -1,6 +1,6 @@
 use Rattle.std.proofs.Common.{[], ◌++◌, take, inl, inr, refl, ◌∙◌, arith, rules}
 use Rattle.runs.proofs.SourceLemmas.{GivesAndLogs-nil, GivesAndLogs-more, GivesAndLogs-none}
-use Rattle.engines.proofs.RunLemmas.{Stands-begin, Stopped-from_err, Stands-from_ok, failed_from_err, passed_on_from_ok, same_from_ok}
+use Rattle.engines.proofs.RunLemmas.{Stands-begin, err_from, ok_from}
 use Rattle.engines.proofs.interaction.serve_commands.Goals as goal
 
 pub pieces-init : goal.pieces-init
@@ -17,22 +17,23 @@ returns-then-is_err-clause-served g c =
     let piece = take c.in-Ok.count c.read_on.new.piece in (
       so_far.0 ++ piece,
       GivesAndLogs-more _ _ _ so_far.0 c.read_on.new.piece c.in-Ok.count _ _ _ _ _ _ so_far.1 c.in-Ok.ensures.bytes.0 (search rules) c.in-Ok.ensures.left c.in-Ok.ensures.given,
-      inl (Stopped-from_err c.serve_piece.result _ _ _ _ _ _ _ (search rules) (c.serve_piece.ensures.goes_on _ _ _ so_far.2)),
+      inl (rw (err_from c.serve_piece.result (search rules)).1 at (c.serve_piece.ensures.goes_on _ _ _ so_far.2)),
     )
 
 pub pieces-preserved : goal.pieces-preserved
 pieces-preserved g c =
     let so_far = c.pieces.invariant.so_far in
+    let fine = (ok_from c.serve_piece.result (search rules)).1 in
     let piece = take c.in-Ok.count c.read_on.new.piece in
     record {
       so_far = (
         so_far.0 ++ piece,
         GivesAndLogs-more _ _ _ so_far.0 c.read_on.new.piece c.in-Ok.count _ _ _ _ _ _ so_far.1 c.in-Ok.ensures.bytes.0 (search rules) c.in-Ok.ensures.left c.in-Ok.ensures.given,
-        Stands-from_ok c.serve_piece.result _ _ _ _ _ _ _ (search rules) (c.serve_piece.ensures.goes_on _ _ _ so_far.2),
+        rw fine at (c.serve_piece.ensures.goes_on _ _ _ so_far.2),
       );
       script_failures = search rules;
-      out_failures = same_from_ok c.serve_piece.result _ _ (search rules) c.serve_piece.ensures.passed_on.failed ∙ c.pieces.invariant.out_failures;
-      passed_on = passed_on_from_ok c.serve_piece.result _ _ (search rules) c.serve_piece.ensures.passed_on.stays c.pieces.invariant.passed_on;
+      out_failures = rw fine at c.serve_piece.ensures.passed_on.failed ∙ c.pieces.invariant.out_failures;
+      passed_on = (rw fine at c.serve_piece.ensures.passed_on.stays) c.pieces.invariant.passed_on;
     }
 
 pub returns-in-Ok-serve_rest-clause-served : goal.returns-in-Ok-serve_rest-clause-served
@@ -55,7 +56,7 @@ pub returns-in-Err-clause-served : goal.returns-in-Err-clause-served
 returns-in-Err-clause-served g c = search rules
 
 pub returns-then-is_err-clause-out_last : goal.returns-then-is_err-clause-out_last
-returns-then-is_err-clause-out_last g c before = failed_from_err c.serve_piece.result _ _ (search rules) c.serve_piece.ensures.passed_on.stays
+returns-then-is_err-clause-out_last g c before = rw (err_from c.serve_piece.result (search rules)).1 at c.serve_piece.ensures.passed_on.stays
 
 -- ---- what was given before stays, and the end was reached where the commands ended
 

@@ -1,9 +1,5 @@
-use Rattle.std.proofs.Common.{rules}
 use Rattle.network.proofs.Reduction.{reduced_ends}
 use Rattle.network.proofs.Network.nodes.Goals as goal
 
 pub returns-clause-ends : goal.returns-clause-ends
 returns-clause-ends c = reduced_ends c.args.self.now (rw c.self.view_is at c.self.invariant.lawful)
-
-pub returns-clause-value : goal.returns-clause-value
-returns-clause-value c = search rules

@@ -2,11 +2,6 @@ use Rattle.std.proofs.Common.{arith}
 use Rattle.std.proofs.lemmas.Int.{ints}
 use Rattle.network.proofs.signs.reduced_by.Goals as goal
 
-pub reduced_cost-requires-clause-sum : goal.reduced_cost-requires-clause-sum
-reduced_cost-requires-clause-sum c =
-    let tail = c.requires.range c.args.arc.now.tail c.requires.tail in
-    omega (arith, ints, tail.0, tail.1, c.requires.cost.0, c.requires.cost.1)
-
 pub reduced_cost-requires-clause-difference : goal.reduced_cost-requires-clause-difference
 reduced_cost-requires-clause-difference c =
     let tail = c.requires.range c.args.arc.now.tail c.requires.tail in

@@ -1,33 +1,18 @@
 use Rattle.std.proofs.Common.{◌∙◌, ap}
 use Rattle.network.specs.Instance.{Instance}
 use Rattle.network.specs.Rows.{return_arcs}
-use Rattle.session.proofs.Recording.{fewer_flows, flows_named, same_potentials, potentials_named, same_marks, marks_named, told}
+use Rattle.session.proofs.Recording.{flows_named, potentials_named, marks_named, told}
 use Rattle.session.proofs.record.Record.of_last_change.Goals as goal
-
-pub differences-requires-clause-fewer : goal.differences-requires-clause-fewer
-differences-requires-clause-fewer g c =
-    let shown = c.args.tables.now in
-    fewer_flows shown.before shown.moment c.requires.before c.requires.was_answered c.requires.answered c.in_ok-parts.parts.items c.in_ok-parts.ensures.back c.old_flow.result.now c.flow.result.now c.old_flow.ensures c.flow.ensures.value
 
 pub differences-requires-clause-named : goal.differences-requires-clause-named
 differences-requires-clause-named g c =
     let shown = c.args.tables.now in
     flows_named shown.before shown.moment c.requires.before c.requires.was_answered c.requires.answered c.in_ok-parts.parts.items c.in_ok-parts.ensures.back c.return_arcs.result c.touched_flow.result.now c.old_flow.result.now c.flow.result.now (c.return_arcs.ensures.count ∙ ap (λ (I : Instance). return_arcs I.demand) c.network.ensures) c.touched_flow.ensures.named c.old_flow.ensures c.flow.ensures.value
 
-pub differences-requires-2-clause-fewer : goal.differences-requires-2-clause-fewer
-differences-requires-2-clause-fewer g c =
-    let shown = c.args.tables.now in
-    same_potentials shown.before shown.moment c.requires.before c.requires.was_answered c.requires.answered c.in_ok-parts.parts.items c.in_ok-parts.ensures.back c.old_potentials.result.now c.potentials.result.now c.old_potentials.ensures c.potentials.ensures.value
-
 pub differences-requires-2-clause-named : goal.differences-requires-2-clause-named
 differences-requires-2-clause-named g c =
     let shown = c.args.tables.now in
     potentials_named shown.before shown.moment c.requires.before c.requires.was_answered c.requires.answered c.touched_potentials.result.now c.old_potentials.result.now c.potentials.result.now c.touched_potentials.ensures.named c.old_potentials.ensures c.potentials.ensures.value
-
-pub differences-requires-3-clause-fewer : goal.differences-requires-3-clause-fewer
-differences-requires-3-clause-fewer g c =
-    let shown = c.args.tables.now in
-    same_marks shown.before shown.moment c.requires.before c.requires.was_answered c.requires.answered c.in_ok-parts.parts.items c.in_ok-parts.ensures.back c.old_cut.result.now c.cut.result.now c.old_cut.ensures c.cut.ensures.value
 
 pub differences-requires-3-clause-named : goal.differences-requires-3-clause-named
 differences-requires-3-clause-named g c =

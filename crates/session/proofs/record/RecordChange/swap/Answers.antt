@@ -4,38 +4,8 @@ use Rattle.flow_solver.specs.Moment.{Moment}
 use Rattle.session.specs.PlacesLaws.{length-taken}
 use Rattle.session.specs.Record.{Recorded, RecordFits, with_record, record_turned}
 use Rattle.session.proofs.Running.{length-turned}
-use Rattle.session.proofs.Swapping.{tells_third, fits_third, lawful_fourth, one_an_arc_fourth, parts_fourth, moment_left, record_left}
+use Rattle.session.proofs.Swapping.{lawful_fourth, one_an_arc_fourth, parts_fourth, moment_left, record_left}
 use Rattle.session.proofs.record.RecordChange.swap.Goals as goal
-
-pub swap_verdict-requires-clause-fits : goal.swap_verdict-requires-clause-fits
-swap_verdict-requires-clause-fits g c =
-    let r : Recorded = record { parts = c.self.inside.parts.items; flows = c.self.inside.flows.items; potentials = c.self.inside.potentials.items; marks = c.self.inside.marks.items; verdict = c.self.inside.verdict } in
-    let m : Moment = c.args.tables.now.moment in
-    let fits = subst (λ (q : Recorded). RecordFits q m) (sym c.self.view_is) c.requires in
-    let flows = rw c.deref_mut.ensures.value at c.swap_flows.ensures.moment in
-    let potentials = rw c.deref_mut-2.ensures.value at c.swap_potentials.ensures.moment in
-    let marks = rw c.deref_mut-3.ensures.value at c.swap_marks.ensures.moment in
-    fits_third r m fits c.swap_flows.new.tables.moment c.swap_potentials.new.tables.moment c.swap_marks.new.tables.moment flows potentials marks
-
-pub swap_verdict-requires-clause-worth : goal.swap_verdict-requires-clause-worth
-swap_verdict-requires-clause-worth g c =
-    let r : Recorded = record { parts = c.self.inside.parts.items; flows = c.self.inside.flows.items; potentials = c.self.inside.potentials.items; marks = c.self.inside.marks.items; verdict = c.self.inside.verdict } in
-    let m : Moment = c.args.tables.now.moment in
-    let fits = subst (λ (q : Recorded). RecordFits q m) (sym c.self.view_is) c.requires in
-    let flows = rw c.deref_mut.ensures.value at c.swap_flows.ensures.moment in
-    let potentials = rw c.deref_mut-2.ensures.value at c.swap_potentials.ensures.moment in
-    let marks = rw c.deref_mut-3.ensures.value at c.swap_marks.ensures.moment in
-    tells_third r m fits c.swap_flows.new.tables.moment c.swap_potentials.new.tables.moment c.swap_marks.new.tables.moment flows potentials marks
-
-pub swap_parts-requires-clause-lawful : goal.swap_parts-requires-clause-lawful
-swap_parts-requires-clause-lawful g c =
-    let r : Recorded = record { parts = c.self.inside.parts.items; flows = c.self.inside.flows.items; potentials = c.self.inside.potentials.items; marks = c.self.inside.marks.items; verdict = c.self.inside.verdict } in
-    let m : Moment = c.args.tables.now.moment in
-    let fits = subst (λ (q : Recorded). RecordFits q m) (sym c.self.view_is) c.requires in
-    let flows = rw c.deref_mut.ensures.value at c.swap_flows.ensures.moment in
-    let potentials = rw c.deref_mut-2.ensures.value at c.swap_potentials.ensures.moment in
-    let marks = rw c.deref_mut-3.ensures.value at c.swap_marks.ensures.moment in
-    lawful_fourth r m fits c.swap_flows.new.tables.moment c.swap_potentials.new.tables.moment c.swap_marks.new.tables.moment flows potentials marks c.swap_verdict.new.self.moment c.swap_verdict.ensures.moment
 
 pub swap_parts-requires-clause-one_an_arc : goal.swap_parts-requires-clause-one_an_arc
 swap_parts-requires-clause-one_an_arc g c =
@@ -46,16 +16,6 @@ swap_parts-requires-clause-one_an_arc g c =
     let potentials = rw c.deref_mut-2.ensures.value at c.swap_potentials.ensures.moment in
     let marks = rw c.deref_mut-3.ensures.value at c.swap_marks.ensures.moment in
     one_an_arc_fourth r m fits c.swap_flows.new.tables.moment c.swap_potentials.new.tables.moment c.swap_marks.new.tables.moment flows potentials marks c.swap_verdict.new.self.moment c.swap_verdict.ensures.moment
-
-pub swap_parts-requires-clause-fit : goal.swap_parts-requires-clause-fit
-swap_parts-requires-clause-fit g c =
-    let r : Recorded = record { parts = c.self.inside.parts.items; flows = c.self.inside.flows.items; potentials = c.self.inside.potentials.items; marks = c.self.inside.marks.items; verdict = c.self.inside.verdict } in
-    let m : Moment = c.args.tables.now.moment in
-    let fits = subst (λ (q : Recorded). RecordFits q m) (sym c.self.view_is) c.requires in
-    let flows = rw c.deref_mut.ensures.value at c.swap_flows.ensures.moment in
-    let potentials = rw c.deref_mut-2.ensures.value at c.swap_potentials.ensures.moment in
-    let marks = rw c.deref_mut-3.ensures.value at c.swap_marks.ensures.moment in
-    rw c.deref_mut-4.ensures.value (parts_fourth r m fits c.swap_flows.new.tables.moment c.swap_potentials.new.tables.moment c.swap_marks.new.tables.moment flows potentials marks c.swap_verdict.new.self.moment c.swap_verdict.ensures.moment)
 
 -- each list and the parts are left with what the moment had
 pub returns-clause-change : goal.returns-clause-change
