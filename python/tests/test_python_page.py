@@ -8,7 +8,13 @@ from pathlib import Path
 from typing import Any, Dict
 
 PAGE = Path(__file__).resolve().parents[2] / "docs" / "PYTHON.md"
-WANTED = {"networkx": "networkx", "scipy_like": "numpy", "import numpy": "numpy", "pandas": "pandas"}
+WANTED = {
+    "networkx": "networkx",
+    "scipy_like": "numpy",
+    "import numpy": "numpy",
+    "pandas": "pandas",
+    "from_frames": "pandas",
+}
 
 
 class PythonPage(unittest.TestCase):
