@@ -229,11 +229,11 @@ static TWICE: [(&[u8], &[i64], Outcome); 3] = [
     ),
 ];
 
-/// An arc that is not there.
-static MISSING: Proposed = (&[(9, 9)], &[0; 5]);
+/// Flow that comes to a node and does not go on: it is refused.
+static STRANDED: Proposed = (&[(0, 4)], &[0; 5]);
 
 /// What the searches alone come to where arcs gain.
-static SEARCHED: Outcome = (Some(0), 4, &[2, 2, 2, 2, 0], &[0; 5], Some(10));
+static SEARCHED: Outcome = (None, 4, &[2, 2, 2, 2, 0], &[0; 5], Some(10));
 
 /// A problem, the excesses with which it begins, and the tables of the searches.
 #[derive(Drop)]
@@ -502,7 +502,7 @@ fn own_proposals_near_an_edit(rt: HostRuntime) -> Result<(), Fail> {
 
 #[test]
 fn own_proposal_after_spoilt_ones(rt: HostRuntime) -> Result<(), Fail> {
-    let spoilt = (Some(MISSING), SEARCHED);
+    let spoilt = (Some(STRANDED), SEARCHED);
     let own = (None, OWN[0].2);
     expect_of(&rt, rt.alloc(), GAINS, &[0, 1, -1, 4, -4], &[spoilt, own])
 }
