@@ -11,8 +11,8 @@ use Rattle.residual_graph.specs.Residual.{IsPseudoflow, number_at, row_at}
 use Rattle.augmentation.specs.Changes.{AreNearer, IsExcessAfter, IsNearer, Rises}
 use Rattle.tracked.specs.Marks.{in_set}
 use Rattle.residual_graph.specs.Graph.{GraphView}
-use Rattle.augmentation.specs.Exchange.{AreChanged, IsDraftFor, IsJournalFor, IsLed, RisesBetween}
-use Rattle.augmentation.specs.declared.draft.Draft.{Draft}
+use Rattle.augmentation.specs.Exchange.{AreChanged, IsTrialFor, IsJournalFor, IsLed, RisesBetween}
+use Rattle.augmentation.specs.declared.trial.Trial.{Trial}
 use Rattle.tracked.specs.Journal.{IsJournal, IsSince}
 use Rattle.augmentation.specs.Push.{AreSmall, IsTransfer, only_at, left, part_above_0}
 use Rattle.tracked.specs.declared.journal.Journal.{Journal}
@@ -101,7 +101,7 @@ led_for is led = record { journal = led.journal; room = omega (arith, is.room, l
 
 -- ---- changes in turn
 
-pub changed_none : (g : GraphView) (d : Draft) (x e : List ℤ) → IsPseudoflow (length e) g.rows x → IsDraftFor d x e → AreChanged g d d x e x e true
+pub changed_none : (g : GraphView) (d : Trial) (x e : List ℤ) → IsPseudoflow (length e) g.rows x → IsTrialFor d x e → AreChanged g d d x e x e true
 changed_none g d x e flow room = record {
   flow = flow;
   flow_led = led_same d.flow x room.flow.journal;
@@ -110,7 +110,7 @@ changed_none g d x e flow room = record {
   excess = λ _. after-same g.rows x e;
 }
 
-pub changed_on : {g : GraphView} {d i j : Draft} {x e y f z h : List ℤ} {in_range : Bool} → AreChanged g d i x e y f true → AreChanged g i j y f z h in_range → AreChanged g d j x e z h in_range
+pub changed_on : {g : GraphView} {d i j : Trial} {x e y f z h : List ℤ} {in_range : Bool} → AreChanged g d i x e y f true → AreChanged g i j y f z h in_range → AreChanged g d j x e z h in_range
 changed_on {g} {d} {i} {j} {x} {e} {y} {f} {z} {h} {in_range} first rest = record {
   flow = rest.flow;
   flow_led = led_on first.flow_led rest.flow_led;
@@ -119,9 +119,9 @@ changed_on {g} {d} {i} {j} {x} {e} {y} {f} {z} {h} {in_range} first rest = recor
   excess = λ yes. after-more g.rows x e y f z h (first.excess refl) (rest.excess yes);
 }
 
--- the draft still has room
-pub draft_on : {g : GraphView} {d i : Draft} {x e y f : List ℤ} {in_range : Bool} → IsDraftFor d x e → AreChanged g d i x e y f in_range → IsDraftFor i y f
-draft_on room changed = record { flow = led_for room.flow changed.flow_led; excess = led_for room.excess changed.excess_led }
+-- the trial still has room
+pub trial_on : {g : GraphView} {d i : Trial} {x e y f : List ℤ} {in_range : Bool} → IsTrialFor d x e → AreChanged g d i x e y f in_range → IsTrialFor i y f
+trial_on room changed = record { flow = led_for room.flow changed.flow_led; excess = led_for room.excess changed.excess_led }
 
 -- ---- what the nodes that a journal notes gave
 

@@ -7,6 +7,6 @@ use Rattle.tracked.specs.Journal.{IsJournal}
 -- the tables have one entry a node
 pub record IsAttemptFor (entries : ℕ) (a : Attempt) : Type 0 where
   pub proposals : a.proposals ≡ entries
-  pub flow : IsJournal a.draft.flow
-  pub excess : IsJournalFor entries a.draft.excess
-  pub order : a.draft.order ≡ entries
+  pub flow : IsJournal a.trial.flow
+  pub excess : IsJournalFor entries a.trial.excess
+  pub order : a.trial.order ≡ entries

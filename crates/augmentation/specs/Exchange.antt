@@ -7,15 +7,15 @@ use Rattle.augmentation.specs.Changes.{AreNearer, IsAcyclicChange, IsExcessAfter
 use Rattle.augmentation.specs.Push.{IsTransfer, left, part_above_0}
 use Rattle.tracked.specs.Journal.{IsJournal, IsSince}
 use Rattle.tracked.specs.declared.journal.Journal.{Journal}
-use Rattle.augmentation.specs.declared.draft.Draft.{Draft}
+use Rattle.augmentation.specs.declared.trial.Trial.{Trial}
 
 -- a journal has room for what stood in a table of so many entries
 pub record IsJournalFor (size : ℕ) (j : Journal) : Type 0 where
   pub journal : IsJournal j
   pub room : size ≤ length j.before.items
 
--- a draft has room for what stands in a flow and in its excess
-pub record IsDraftFor (d : Draft) (x e : List ℤ) : Type 0 where
+-- a trial has room for what stands in a flow and in its excess
+pub record IsTrialFor (d : Trial) (x e : List ℤ) : Type 0 where
   pub flow : IsJournalFor (length x) d.flow
   pub excess : IsJournalFor (length e) d.excess
 
@@ -35,8 +35,8 @@ pub record RisesBetween (a : ArcRow) (x y : ℤ) (ranks : List ℕ) : Type 0 whe
 abbrev pub RisesSince : List ArcRow → Journal → List ℤ → List ℕ → Type 0
 RisesSince rows j y ranks = (x : List ℤ) → IsSince j x y → Rises rows x y ranks
 
--- flow x with excess e became flow y with excess f, within the bounds, and draft d became d': each place was noted before it was written; the excess is the one that the flow leaves, if that was in range
-pub record AreChanged (g : GraphView) (d d' : Draft) (x e y f : List ℤ) (in_range : Bool) : Type 0 where
+-- flow x with excess e became flow y with excess f, within the bounds, and trial d became d': each place was noted before it was written; the excess is the one that the flow leaves, if that was in range
+pub record AreChanged (g : GraphView) (d d' : Trial) (x e y f : List ℤ) (in_range : Bool) : Type 0 where
   pub flow : IsPseudoflow (length f) g.rows y
   pub flow_led : IsLed d.flow d'.flow x y
   pub excess_led : IsLed d.excess d'.excess e f
@@ -69,8 +69,8 @@ pub record IsExchange (nodes : ℕ) (rows : List ArcRow) (n : ℕ) (x e y f : Li
 abbrev pub AreExchanged : GraphView → List ℤ → List ℤ → List ℤ → List ℤ → ℕ → Type 0
 AreExchanged g x e y f n = IsExchange (length e) g.rows n x e y f
 
--- so it is, and a draft remembers what stood there
-pub record AreLed (g : GraphView) (d : Draft) (x e y f : List ℤ) (n : ℕ) : Type 0 where
+-- so it is, and a trial remembers what stood there
+pub record AreLed (g : GraphView) (d : Trial) (x e y f : List ℤ) (n : ℕ) : Type 0 where
   pub exchange : AreExchanged g x e y f n
   pub flow_since : IsSince d.flow x y
   pub excess_since : IsSince d.excess e f

@@ -15,13 +15,13 @@ ghost use Rattle.augmentation.specs.Pseudoflow.{IsReady};
 ghost use Rattle.augmentation.specs.Push.{AreSmall};
 
 use crate::attempt::Attempt;
-use crate::draft::Draft;
 use crate::excess::{Excess, note_unbalanced};
 use crate::exchange::exchange;
 use crate::near::{Apart, note_apart, raise, write_labels, write_raised};
 use crate::potentials::is_renewed;
 use crate::rounds::finish;
 use crate::scratch::Scratch;
+use crate::trial::Trial;
 use residual_graph::Graph;
 use tracked::{Journal, Touched, Tracked};
 
@@ -52,12 +52,12 @@ pub(crate) fn lead(
     ensures written { IsWritten flow.old flow.new }
     ensures same_flow { IfNone result (flow.new.entries ≡ flow.old.entries) }
     ensures same_excess { IfNone result (excess.new ≡ excess.old) }
-    ensures led { IfSome result (AreLed graph.now attempt.new.draft
+    ensures led { IfSome result (AreLed graph.now attempt.new.trial
         flow.old.entries excess.old flow.new.entries excess.new) }
     ensures attempt { IsAttemptFor (length excess.old) attempt.new }
 {
-    let draft = &mut attempt.draft;
-    if draft.flow.before.len() < flow.entries.len() {
+    let trial = &mut attempt.trial;
+    if trial.flow.before.len() < flow.entries.len() {
         return None;
     }
     let changes = &mut attempt.wanted.changes;
@@ -66,33 +66,33 @@ pub(crate) fn lead(
         &mut flow.entries,
         &mut excess.entries,
         changes,
-        draft,
+        trial,
     ) else {
-        draft.flow.bring_back(&mut flow.entries);
-        draft.excess.bring_back(&mut excess.entries);
+        trial.flow.bring_back(&mut flow.entries);
+        trial.excess.bring_back(&mut excess.entries);
         return None;
     };
     // Each node came nearer to balance, so those out of balance are listed still.
-    note_written(&mut flow.touched, &draft.flow);
+    note_written(&mut flow.touched, &trial.flow);
     attempt.follow(graph, &flow.entries);
     Some(units)
 }
 
 /// Brings flow and excess back.
-pub(crate) fn take_back(flow: &mut Tracked<i64>, excess: &mut Excess, draft: &Draft)
-    requires flow_journal { IsJournalFor (length flow.old.entries) draft.now.flow }
-    requires flow_since { (xs : List ℤ) × IsSince draft.now.flow xs flow.old.entries }
-    requires excess_journal { IsJournalFor (length excess.old) draft.now.excess }
-    requires excess_since { (es : List ℤ) × IsSince draft.now.excess es excess.old }
+pub(crate) fn take_back(flow: &mut Tracked<i64>, excess: &mut Excess, trial: &Trial)
+    requires flow_journal { IsJournalFor (length flow.old.entries) trial.now.flow }
+    requires flow_since { (xs : List ℤ) × IsSince trial.now.flow xs flow.old.entries }
+    requires excess_journal { IsJournalFor (length excess.old) trial.now.excess }
+    requires excess_since { (es : List ℤ) × IsSince trial.now.excess es excess.old }
     ensures written { IsWritten flow.old flow.new }
-    ensures flow { IsBefore draft.now.flow flow.old.entries flow.new.entries }
-    ensures excess { IsBefore draft.now.excess excess.old excess.new }
+    ensures flow { IsBefore trial.now.flow flow.old.entries flow.new.entries }
+    ensures excess { IsBefore trial.now.excess excess.old excess.new }
 {
-    draft.flow.bring_back(&mut flow.entries);
-    note_written(&mut flow.touched, &draft.flow);
-    draft.excess.bring_back(&mut excess.entries);
+    trial.flow.bring_back(&mut flow.entries);
+    note_written(&mut flow.touched, &trial.flow);
+    trial.excess.bring_back(&mut excess.entries);
     note_unbalanced(
-        draft.excess.written.places(),
+        trial.excess.written.places(),
         &excess.entries,
         &mut excess.unbalanced,
     );
@@ -126,7 +126,7 @@ pub fn adopt(
     let proposals = &attempt.proposals;
     tree.lower(proposals.greatest());
     if !is_renewed(graph, flow, proposals.potentials(), proposals.ends(), tree) {
-        take_back(flow, excess, &attempt.draft);
+        take_back(flow, excess, &attempt.trial);
         return None;
     }
     attempt.proposals.adopted();

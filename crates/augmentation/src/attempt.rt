@@ -6,8 +6,8 @@ ghost use Rattle.residual_graph.specs.Limits.{row_limit};
 ghost use Rattle.residual_graph.specs.Residual.{IsPseudoflow};
 ghost use Rattle.augmentation.specs.Attempt.{IsAttemptFor};
 
-use crate::draft::Draft;
 use crate::excess::Excess;
+use crate::trial::Trial;
 use containers::both;
 use proposals::{Aim, Proposals, Wanted};
 use residual_graph::Graph;
@@ -21,7 +21,7 @@ const MOST_ARCS: usize = 1_000_000_000;
 pub struct Attempt {
     pub proposals: Proposals,
     pub wanted: Wanted,
-    pub draft: Draft,
+    pub trial: Trial,
 }
 
 impl Attempt {
@@ -36,12 +36,12 @@ impl Attempt {
         let arcs = arcs.min(MOST_ARCS);
         let proposals = Proposals::new(alloc, entries, arcs);
         let wanted = Wanted::new(alloc, arcs);
-        let draft = Draft::new(alloc, entries, arcs);
-        let (proposals, (wanted, draft)) = both(proposals, both(wanted, draft))?;
+        let trial = Trial::new(alloc, entries, arcs);
+        let (proposals, (wanted, trial)) = both(proposals, both(wanted, trial))?;
         Ok(Attempt {
             proposals,
             wanted,
-            draft,
+            trial,
         })
     }
 
@@ -82,7 +82,7 @@ impl Attempt {
         requires { length flow.now ≡ length graph.now.rows }
         ensures { self.new ≡ self.old }
     {
-        if self.draft.order.has_circles() {
+        if self.trial.order.has_circles() {
             self.proposals
                 .follow(graph.rows(), flow, &self.wanted.changes);
         } else {

@@ -3,14 +3,14 @@
 
 ghost use Rattle.std.specs.Prelude.{◌≡◌, ℕ, ◌<◌, ◌≤◌, IfSome, IsTrue, length, slice_set, true};
 ghost use Rattle.residual_graph.specs.Residual.{IsPseudoflow, IsRow};
-ghost use Rattle.augmentation.specs.Exchange.{AreChanged, AreExchanged, HasGiven, HaveGiven, IsDraftFor, IsJournalFor, IsLed, IsMovedAlong, RisesBetween, RisesSince};
+ghost use Rattle.augmentation.specs.Exchange.{AreChanged, AreExchanged, HasGiven, HaveGiven, IsTrialFor, IsJournalFor, IsLed, IsMovedAlong, RisesBetween, RisesSince};
 ghost use Rattle.tracked.specs.Journal.{IsJournal, IsSince};
 ghost use Rattle.tracked.specs.Marks.{in_set};
 ghost use Rattle.augmentation.specs.Push.{AreSmall};
 
-use crate::draft::Draft;
+use crate::trial::Trial;
 use dimacs_text::ArcRow;
-use proposals::Change;
+use proposals::FlowChange;
 use residual_graph::Graph;
 use tracked::Journal;
 
@@ -51,12 +51,12 @@ fn change_arc(
     graph: &Graph,
     flow: &mut [i64],
     excess: &mut [i64],
-    draft: &mut Draft,
-    change: &Change,
+    trial: &mut Trial,
+    change: &FlowChange,
 ) -> bool
     requires flow { IsPseudoflow (length excess.old) graph.now.rows flow.old }
-    requires draft { IsDraftFor draft.old flow.old excess.old }
-    ensures { AreChanged graph.now draft.old draft.new
+    requires trial { IsTrialFor trial.old flow.old excess.old }
+    ensures { AreChanged graph.now trial.old trial.new
         flow.old excess.old flow.new excess.new result }
 {
     let k = change.arc as usize;
@@ -69,8 +69,8 @@ fn change_arc(
         return true;
     }
     let amount = goal - flow[k];
-    write(flow, &mut draft.flow, k, goal);
-    move_excess(excess, &mut draft.excess, &row, amount)
+    write(flow, &mut trial.flow, k, goal);
+    move_excess(excess, &mut trial.excess, &row, amount)
 }
 
 /// The same of all changes, in turn.
@@ -78,16 +78,16 @@ fn change_arcs(
     graph: &Graph,
     flow: &mut [i64],
     excess: &mut [i64],
-    draft: &mut Draft,
-    changes: &[Change],
+    trial: &mut Trial,
+    changes: &[FlowChange],
 ) -> bool
     requires flow { IsPseudoflow (length excess.old) graph.now.rows flow.old }
-    requires draft { IsDraftFor draft.old flow.old excess.old }
-    ensures { AreChanged graph.now draft.old draft.new
+    requires trial { IsTrialFor trial.old flow.old excess.old }
+    ensures { AreChanged graph.now trial.old trial.new
         flow.old excess.old flow.new excess.new result }
 {
     for change in changes {
-        if !change_arc(graph, flow, excess, draft, change) {
+        if !change_arc(graph, flow, excess, trial, change) {
             return false;
         }
     }
@@ -161,30 +161,30 @@ pub(crate) fn exchange(
     graph: &Graph,
     flow: &mut [i64],
     excess: &mut [i64],
-    changes: &mut [Change],
-    draft: &mut Draft,
+    changes: &mut [FlowChange],
+    trial: &mut Trial,
 ) -> Option<u64>
     requires flow { IsPseudoflow (length excess.old) graph.now.rows flow.old }
     requires small { AreSmall excess.old }
-    requires draft { IsDraftFor draft.old flow.old excess.old }
-    requires order { draft.old.order ≡ length excess.old }
+    requires trial { IsTrialFor trial.old flow.old excess.old }
+    requires order { trial.old.order ≡ length excess.old }
     ensures some { IfSome result (AreExchanged graph.now flow.old excess.old flow.new excess.new) }
-    ensures flow_journal { IsJournal draft.new.flow }
-    ensures flow_since { IsSince draft.new.flow flow.old flow.new }
-    ensures excess_journal { IsJournal draft.new.excess }
-    ensures excess_since { IsSince draft.new.excess excess.old excess.new }
-    ensures order { draft.new.order ≡ draft.old.order }
+    ensures flow_journal { IsJournal trial.new.flow }
+    ensures flow_since { IsSince trial.new.flow flow.old flow.new }
+    ensures excess_journal { IsJournal trial.new.excess }
+    ensures excess_since { IsSince trial.new.excess excess.old excess.new }
+    ensures order { trial.new.order ≡ trial.old.order }
 {
-    draft.flow.clear();
-    draft.excess.clear();
-    if !draft.order.lay_out(graph, flow, changes) {
+    trial.flow.clear();
+    trial.excess.clear();
+    if !trial.order.lay_out(graph, flow, changes) {
         return None;
     }
-    if !change_arcs(graph, flow, excess, draft, changes) {
+    if !change_arcs(graph, flow, excess, trial, changes) {
         return None;
     }
-    if !rise(graph, flow, &draft.flow, draft.order.ranks()) {
+    if !rise(graph, flow, &trial.flow, trial.order.ranks()) {
         return None;
     }
-    units_given(&draft.excess, excess)
+    units_given(&trial.excess, excess)
 }

@@ -2,7 +2,7 @@
 
 ghost use Rattle.std.specs.Prelude.{◌≡◌, IfOk, length};
 
-use proposals::Change;
+use proposals::FlowChange;
 use residual_graph::Graph;
 use std::alloc::{AllocError, Global};
 use std::marker::Model;
@@ -18,12 +18,12 @@ const STEPS: u64 = 400;
 struct Stop {
     /// The place of the first change that may still bring something to the node; the others follow by `next`.
     first: u32,
-    state: State,
+    state: Visit,
 }
 
 /// How far the walk is with a node.
 #[derive(Clone, Copy)]
-enum State {
+enum Visit {
     /// It has not come there, or has gone back from there.
     Open,
     /// The node has this place on it.
@@ -35,13 +35,13 @@ enum State {
 /// A node to which no change leads, and no walk came.
 const UNTOUCHED: Stop = Stop {
     first: NO_CHANGE,
-    state: State::Open,
+    state: Visit::Open,
 };
 
 /// What stands for a node that is not there: no walk goes on to it.
 const MISSING: Stop = Stop {
     first: NO_CHANGE,
-    state: State::Ranked,
+    state: Visit::Ranked,
 };
 
 /// Walks back along the changes of a flow, depth first, in which a node gets its rank when nothing more comes to it: so a
@@ -69,7 +69,7 @@ impl Model for Order {
 }
 
 /// Where a change comes from and where it leads; nothing where its arc is not there or carries what is wanted.
-fn ends_of(graph: &Graph, flow: &[i64], change: &Change) -> Option<(u32, u32)> {
+fn ends_of(graph: &Graph, flow: &[i64], change: &FlowChange) -> Option<(u32, u32)> {
     let row = graph.rows().get(change.arc as usize)?;
     let now = *flow.get(change.arc as usize)?;
     if change.flow > now {
@@ -82,7 +82,7 @@ fn ends_of(graph: &Graph, flow: &[i64], change: &Change) -> Option<(u32, u32)> {
 }
 
 /// How far the change at a place is from the flow that stands: 0 where there is none.
-fn distance_at(flow: &[i64], changes: &[Change], place: u32) -> i64 {
+fn distance_at(flow: &[i64], changes: &[FlowChange], place: u32) -> i64 {
     let Some(change) = changes.get(place as usize) else {
         return 0;
     };
@@ -97,7 +97,7 @@ fn distance_at(flow: &[i64], changes: &[Change], place: u32) -> i64 {
 }
 
 /// Takes `amount` off what a change wants.
-fn lessen(flow: &[i64], changes: &mut [Change], place: u32, amount: i64) {
+fn lessen(flow: &[i64], changes: &mut [FlowChange], place: u32, amount: i64) {
     let Some(change) = changes.get_mut(place as usize) else {
         return;
     };
@@ -112,7 +112,7 @@ fn lessen(flow: &[i64], changes: &mut [Change], place: u32, amount: i64) {
 }
 
 /// Brings what is wanted of each arc within its bounds.
-fn keep_bounds(graph: &Graph, changes: &mut [Change]) {
+fn keep_bounds(graph: &Graph, changes: &mut [FlowChange]) {
     for change in changes.iter_mut() {
         if let Some(row) = graph.rows().get(change.arc as usize) {
             change.flow = change.flow.max(row.low).min(row.cap);
@@ -155,7 +155,12 @@ impl Order {
 
     /// Lays the changes out: brings what is wanted within the bounds, takes off what goes round in circles, and ranks the
     /// nodes. Where that takes too many steps it is given up.
-    pub(crate) fn lay_out(&mut self, graph: &Graph, flow: &[i64], changes: &mut [Change]) -> bool
+    pub(crate) fn lay_out(
+        &mut self,
+        graph: &Graph,
+        flow: &[i64],
+        changes: &mut [FlowChange],
+    ) -> bool
         ensures { self.new ≡ self.old }
     {
         keep_bounds(graph, changes);
@@ -172,7 +177,7 @@ impl Order {
     }
 
     /// Forgets what is known of the ends of the changes, and allows as many steps as they may take.
-    fn begin(&mut self, graph: &Graph, flow: &[i64], changes: &[Change])
+    fn begin(&mut self, graph: &Graph, flow: &[i64], changes: &[FlowChange])
         ensures { self.new ≡ self.old }
     {
         let places = (self.ranks.len() as u64).saturating_add(changes.len() as u64);
@@ -188,7 +193,7 @@ impl Order {
     }
 
     /// Lists each change at the node to which it leads.
-    fn list(&mut self, graph: &Graph, flow: &[i64], changes: &mut [Change])
+    fn list(&mut self, graph: &Graph, flow: &[i64], changes: &mut [FlowChange])
         ensures { self.new ≡ self.old }
     {
         for j in 0..changes.len() {
@@ -203,7 +208,13 @@ impl Order {
     }
 
     /// Ranks a node and all nodes before it, unless that was done. Says whether the steps that are left were enough.
-    fn rank_back(&mut self, graph: &Graph, flow: &[i64], changes: &mut [Change], node: u32) -> bool
+    fn rank_back(
+        &mut self,
+        graph: &Graph,
+        flow: &[i64],
+        changes: &mut [FlowChange],
+        node: u32,
+    ) -> bool
         ensures { self.new ≡ self.old }
     {
         if self.is_ranked(node) {
@@ -225,7 +236,7 @@ impl Order {
 
     /// One step of the walk: back along a change to a node without a rank; or, where that is on the walk, the circle is
     /// taken off; or, where nothing comes to the last node any more, the walk leaves that node, which gets its rank.
-    fn step(&mut self, graph: &Graph, flow: &[i64], changes: &mut [Change])
+    fn step(&mut self, graph: &Graph, flow: &[i64], changes: &mut [FlowChange])
         ensures { self.new ≡ self.old }
     {
         self.fuel = self.fuel.saturating_sub(1);
@@ -235,7 +246,7 @@ impl Order {
         let node = *last;
         match self.next_from(graph, flow, changes, node) {
             Some(from) => match self.stop(from).state {
-                State::OnWalk(place) => self.take_off_circle(flow, changes, place as usize),
+                Visit::OnWalk(place) => self.take_off_circle(flow, changes, place as usize),
                 _ => self.enter(from),
             },
             None => self.rank(node),
@@ -248,7 +259,7 @@ impl Order {
         &mut self,
         graph: &Graph,
         flow: &[i64],
-        changes: &[Change],
+        changes: &[FlowChange],
         node: u32,
     ) -> Option<u32>
         ensures { self.new ≡ self.old }
@@ -274,7 +285,7 @@ impl Order {
         };
         if self.walk.len() < self.walk.capacity() {
             self.walk.push_reserved(node);
-            self.set_state(node, State::OnWalk(place));
+            self.set_state(node, Visit::OnWalk(place));
         }
     }
 
@@ -286,13 +297,13 @@ impl Order {
             *rank = self.ranked;
         }
         self.ranked = self.ranked.saturating_add(1);
-        self.set_state(node, State::Ranked);
+        self.set_state(node, Visit::Ranked);
         let _ = self.walk.pop();
     }
 
     /// Takes what goes round the circle that the walk's nodes from one on form off the changes, and goes back to the first
     /// of them whose change is done with that.
-    fn take_off_circle(&mut self, flow: &[i64], changes: &mut [Change], begin: usize)
+    fn take_off_circle(&mut self, flow: &[i64], changes: &mut [FlowChange], begin: usize)
         ensures { self.new ≡ self.old }
     {
         self.has_circles = true;
@@ -305,7 +316,7 @@ impl Order {
     }
 
     /// The place on the walk, from one on, of the change that is the nearest to the flow that stands, and how far that is.
-    fn narrowest_from(&self, flow: &[i64], changes: &[Change], begin: usize) -> (usize, i64) {
+    fn narrowest_from(&self, flow: &[i64], changes: &[FlowChange], begin: usize) -> (usize, i64) {
         let mut narrowest = begin;
         let mut least = i64::MAX;
         for j in begin..self.walk.len() {
@@ -324,7 +335,7 @@ impl Order {
     {
         for _ in keep..self.walk.len() {
             if let Some(node) = self.walk.pop() {
-                self.set_state(node, State::Open);
+                self.set_state(node, Visit::Open);
             }
         }
     }
@@ -347,7 +358,7 @@ impl Order {
 
     /// Whether a node has its rank.
     fn is_ranked(&self, node: u32) -> bool {
-        matches!(self.stop(node).state, State::Ranked)
+        matches!(self.stop(node).state, Visit::Ranked)
     }
 
     /// Forgets what is known of a node.
@@ -369,7 +380,7 @@ impl Order {
     }
 
     /// Notes how far the walk is with a node.
-    fn set_state(&mut self, node: u32, state: State)
+    fn set_state(&mut self, node: u32, state: Visit)
         ensures { self.new ≡ self.old }
     {
         if let Some(stop) = self.stops.get_mut(node as usize) {

@@ -147,7 +147,7 @@ pub(crate) struct Ground<'a> {
 
 /// What comes of a step of a walk.
 #[derive(Clone, Copy)]
-enum Step {
+enum Advance {
     /// The node lies in excess.
     Arrived,
     /// The walk goes on at this node.
@@ -175,9 +175,9 @@ pub(crate) fn find_way(
     let mut node = target;
     for _ in 0..MOST_STEPS {
         match step_back(on, predecessors, trails, node) {
-            Step::Arrived => return true,
-            Step::To(next) => node = next,
-            Step::Closed => {
+            Advance::Arrived => return true,
+            Advance::To(next) => node = next,
+            Advance::Closed => {
                 if node == target {
                     return false;
                 }
@@ -194,33 +194,33 @@ fn step_back(
     predecessors: &mut [Predecessor],
     trails: &mut Trails,
     node: usize,
-) -> Step
+) -> Advance
     requires ground { IsGround on }
     requires forest { IsForest on.graph.now.rows on.potentials.now predecessors.old }
     ensures forest { IsForest on.entry.graph.now.rows on.entry.potentials.now predecessors.new }
 {
     if node >= predecessors.len() || trails.is_closed(node) {
-        return Step::Closed;
+        return Advance::Closed;
     }
     if predecessors[node].rank == 0 {
         if on.excess[node] > 0 {
-            return Step::Arrived;
+            return Advance::Arrived;
         }
         trails.close(node);
-        return Step::Closed;
+        return Advance::Closed;
     }
     let hop = predecessors[node].arc();
     if (hop.arc as usize) < on.graph.rows().len() && on.graph.has_room(on.flow, hop) {
         let start = on.graph.start(hop.arc as usize, hop.way);
         if !trails.is_closed(start) {
             trails.come(start, node);
-            return Step::To(start);
+            return Advance::To(start);
         }
     }
     let Some(end) = trails.take_next(on.graph, node) else {
         trails.close(node);
-        return Step::Closed;
+        return Advance::Closed;
     };
     hang_on(on.graph, on.potentials, predecessors, node, across(end));
-    Step::To(node)
+    Advance::To(node)
 }

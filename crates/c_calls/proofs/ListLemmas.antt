@@ -8,7 +8,7 @@ use Rattle.network.specs.Instance.{Instance, IsBest, IsBreach, IsCertified, IsLe
 use Rattle.session.specs.Parts.{flow_of}
 use Rattle.c_calls.specs.Answer.{IsGiven, IsGivenBy, written_over}
 use Rattle.c_calls.specs.Library.{given, has_cut, has_flow, is_feasible}
-use Rattle.c_calls.specs.declared.answer.Answer.{Answer}
+use Rattle.c_calls.specs.declared.answer.AnswerRoom.{AnswerRoom}
 
 -- what is given is there
 pub given_there : (there : Bool) (count room : ℕ) → given there count room ≡ pos 0 → there ≡ true
@@ -43,14 +43,14 @@ pub breach : (m : Moment) (shortage : ℤ) → IsAnswered m → m.verdict ≡ In
 breach m shortage answered e = breach_by m.verdict m.instance m.flow (is_marked m.cut) shortage e answered.verdict
 
 -- lists that are in their rooms are the answer, by the verdict
-pub best_given : (m : Moment) (worth : ℤ) (old new : Answer) → Best worth ≡ m.verdict → IsAnswered m → new.flow.now ≡ written_over (flow_of m) old.flow.now
+pub best_given : (m : Moment) (worth : ℤ) (old new : AnswerRoom) → Best worth ≡ m.verdict → IsAnswered m → new.flow.now ≡ written_over (flow_of m) old.flow.now
     → new.potentials.now ≡ written_over m.potentials old.potentials.now → new.cut.now ≡ old.cut.now → IsGiven m old new
 best_given m worth old new e answered flow potentials cut =
     let feasible : has_flow m ≡ true = ap is_feasible (sym e) in
     subst (λ (v : Verdict). IsGivenBy v m old new) e
     (record { flow_is = flow; potentials_are = potentials; cut_stays = cut; best = best_flow m answered feasible; certified = certified m answered feasible })
 
-pub cut_given : (m : Moment) (shortage : ℤ) (old new : Answer) → Infeasible shortage ≡ m.verdict → IsAnswered m → new.cut.now ≡ written_over m.cut old.cut.now
+pub cut_given : (m : Moment) (shortage : ℤ) (old new : AnswerRoom) → Infeasible shortage ≡ m.verdict → IsAnswered m → new.cut.now ≡ written_over m.cut old.cut.now
     → new.flow.now ≡ old.flow.now → new.potentials.now ≡ old.potentials.now → IsGiven m old new
 cut_given m shortage old new e answered cut flow potentials =
     let infeasible : has_cut m ≡ true = ap (λ v. not (is_feasible v)) (sym e) in

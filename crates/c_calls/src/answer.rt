@@ -17,7 +17,7 @@ use std::alloc::Global;
 
 /// Where the answer to a problem goes: lists to the start of the room that C has for them, and what is told at once.
 #[repr(C)]
-pub struct Answer<'a> {
+pub struct AnswerRoom<'a> {
     /// Room for a best flow, of one entry an arc or more.
     pub flow: &'a mut [i64],
     /// Room for potentials, of one entry a node or more.
@@ -33,7 +33,7 @@ pub struct Answer<'a> {
 ///
 /// Answers 0, or `FAULT`, with the fault; `TOO_SHORT` where a list has no room, with the sizes in the view and before
 /// anything is solved; or `MEMORY`. Nothing else is written then.
-pub fn solve_text(alloc: Global, text: &[u8], answer: &mut Answer) -> i32
+pub fn solve_text(alloc: Global, text: &[u8], answer: &mut AnswerRoom) -> i32
     ensures solved { result ≡ pos 0 → IsSolved text.now answer.old answer.new }
     ensures fault { result ≡ FAULT → IsFaultOf text.now answer.new.fault }
     ensures too_short { result ≡ TOO_SHORT → IsTooShort text.now answer.old answer.new }
@@ -50,7 +50,7 @@ pub fn solve_text(alloc: Global, text: &[u8], answer: &mut Answer) -> i32
 }
 
 /// Answers a problem, as `solve_text` does of a text that has one.
-fn solve_problem(alloc: Global, problem: Problem, answer: &mut Answer) -> i32
+fn solve_problem(alloc: Global, problem: Problem, answer: &mut AnswerRoom) -> i32
     ensures solved { result ≡ pos 0 → IsProblemSolved problem answer.old answer.new }
     ensures too_short { result ≡ TOO_SHORT → IsProblemTooLong problem answer.old answer.new }
     ensures otherwise { result ≢ pos 0 → result ≢ TOO_SHORT → result ≡ MEMORY }
@@ -76,7 +76,7 @@ fn solve_problem(alloc: Global, problem: Problem, answer: &mut Answer) -> i32
 }
 
 /// Whether there is room for each list of a problem's answer.
-fn has_room(answer: &Answer, problem: &Problem) -> bool
+fn has_room(answer: &AnswerRoom, problem: &Problem) -> bool
     ensures { IsTrue result ↔ HasRoomFor problem.now answer.now }
 {
     let nodes = problem.nodes() as usize;
@@ -86,7 +86,7 @@ fn has_room(answer: &Answer, problem: &Problem) -> bool
 }
 
 /// Gives the answer of the present moment.
-fn give_answer(session: &Session, answer: &mut Answer)
+fn give_answer(session: &Session, answer: &mut AnswerRoom)
     requires flow { length (present session.now).instance.arcs ≤ length answer.old.flow.now }
     requires potentials { (present session.now).instance.nodes ≤ length answer.old.potentials.now }
     requires cut { (present session.now).instance.nodes ≤ length answer.old.cut.now }

@@ -12,7 +12,7 @@ mod status;
 mod statuses;
 mod view;
 
-pub use answer::{Answer, solve_text};
+pub use answer::{AnswerRoom, solve_text};
 pub use array_fault::ArrayFault;
 pub use array_text::arrays_are_as_their_text;
 pub use arrays::{Arrays, open_arrays};

@@ -21,7 +21,7 @@ mod plan;
 mod pointer;
 
 use c_calls::{
-    Answer, ArrayFault, Arrays, CLOSED, Fault, MEMORY, OPEN, View, give_cut, give_flow,
+    AnswerRoom, ArrayFault, Arrays, CLOSED, Fault, MEMORY, OPEN, View, give_cut, give_flow,
     give_potentials, look, open_arrays, open_session, solve_text, take_line,
 };
 use handle::Handle;
@@ -34,7 +34,7 @@ use std::alloc::Global;
 /// Answers 0, or `FAULT`, with the fault; `TOO_SHORT` where a list has no room, with the sizes in the view and before
 /// anything is solved; or `MEMORY`. Nothing else is written then.
 #[unsafe(no_mangle)]
-pub extern "C" fn mcf_solve(alloc: Global, text: &[u8], answer: &mut Answer) -> i32
+pub extern "C" fn mcf_solve(alloc: Global, text: &[u8], answer: &mut AnswerRoom) -> i32
     ensures solved { result ≡ pos 0 → IsSolved text.now answer.old answer.new }
     ensures fault { result ≡ FAULT → IsFaultOf text.now answer.new.fault }
     ensures too_short { result ≡ TOO_SHORT → IsTooShort text.now answer.old answer.new }

@@ -2,7 +2,7 @@
 
 ghost use Rattle.std.specs.Prelude.{◌≡◌, ◌<◌, ◌≤◌, ◌^◌, ℕ, IfSome, length};
 
-use crate::look::Step;
+use crate::look::Incoming;
 use crate::records::Records;
 use crate::search::Search;
 use containers::Nodes;
@@ -96,7 +96,7 @@ impl Search {
 
     /// Goes back from a node along an arc.
     #[inline(always)]
-    fn walk_on(&mut self, u: usize, step: Step)
+    fn walk_on(&mut self, u: usize, step: Incoming)
         requires node { u < self.old }
         requires other { step.other < self.old }
         ensures { self.new ≡ self.old }

@@ -25,4 +25,4 @@ mod walk;
 mod wanted;
 
 pub use tables::{Aim, Proposals};
-pub use wanted::{Change, Wanted};
+pub use wanted::{FlowChange, Wanted};

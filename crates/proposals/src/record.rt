@@ -4,7 +4,7 @@ use two_sided::NO_PLACE;
 
 /// What a search and the walks after it know of a node.
 #[derive(Clone, Copy)]
-pub struct Record {
+pub struct NodeRecord {
     /// The number of arcs of the best path so far; later the level of the node.
     pub depth: u32,
     /// The place, at this node, of the last arc of that path.
@@ -17,9 +17,9 @@ pub struct Record {
     pub gone: bool,
 }
 
-impl Record {
+impl NodeRecord {
     /// What is known of a node at first.
-    pub const NEW: Record = Record {
+    pub const NEW: NodeRecord = NodeRecord {
         depth: 0,
         parent: NO_PLACE,
         current: 0,

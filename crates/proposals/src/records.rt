@@ -2,7 +2,7 @@
 
 ghost use Rattle.std.specs.Prelude.{◌≡◌, ◌<◌, ℕ, IfOk, length};
 
-use crate::record::Record;
+use crate::record::NodeRecord;
 use std::alloc::{AllocError, Global};
 use std::marker::Model;
 use two_sided::{FAR, NO_PLACE};
@@ -10,7 +10,7 @@ use two_sided::{FAR, NO_PLACE};
 /// A record of each node. It is seen as the number of entries that a table of nodes has.
 #[derive(Drop)]
 pub struct Records {
-    table: Vec<Record>,
+    table: Vec<NodeRecord>,
     /// How far the best path to each node reaches so far: its length and the potential of the node, so that a look at an
     /// arc asks for this one number of the node beyond.
     reaches: Vec<i64>,
@@ -34,7 +34,7 @@ impl Records {
     pub fn new(alloc: Global, entries: usize) -> Result<Records, AllocError>
         ensures { IfOk result (λ r. r ≡ entries) }
     {
-        let table = vec![in alloc; Record::NEW; entries]?;
+        let table = vec![in alloc; NodeRecord::NEW; entries]?;
         let reaches = vec![in alloc; FAR; entries]?;
         Ok(Records { table, reaches })
     }
@@ -49,7 +49,7 @@ impl Records {
 
     /// The record of a node.
     #[inline(always)]
-    pub fn get(&self, v: usize) -> Record
+    pub fn get(&self, v: usize) -> NodeRecord
         requires { v < self.now }
     {
         self.table[v]

@@ -5,7 +5,7 @@ ghost use Rattle.std.specs.Prelude.{◌≡◌, ◌<◌, ◌^◌, ◌*◌, IfOk, 
 use crate::greatest::{Roots, solve_from};
 use crate::search::Search;
 use crate::solving::solve;
-use crate::wanted::{Change, Wanted};
+use crate::wanted::{FlowChange, Wanted};
 use containers::{Noted, both};
 use dimacs_text::ArcRow;
 use relaxation::{Proposal, Ring, Sets};
@@ -278,7 +278,7 @@ impl Proposals {
 
     /// Brings the ends in step with a flow that was led to what is wanted, as the tree of labels reads them then: the flow can
     /// be another than the proposed one only at these arcs, of which some went round in circles, and at the return arc.
-    pub fn follow(&mut self, rows: &[ArcRow], flow: &[i64], changes: &[Change])
+    pub fn follow(&mut self, rows: &[ArcRow], flow: &[i64], changes: &[FlowChange])
         requires { length flow.now ≡ length rows.now }
         ensures { self.new ≡ self.old }
     {
@@ -314,7 +314,7 @@ impl Proposals {
 
     /// Brings the proposal in step with the flow where it was adopted. The flow can be another than the proposed one
     /// only at an arc of the changes: what went round in circles was left out.
-    pub fn catch_up(&mut self, rows: &[ArcRow], flow: &[i64], changes: &[Change])
+    pub fn catch_up(&mut self, rows: &[ArcRow], flow: &[i64], changes: &[FlowChange])
         requires { length flow.now ≡ length rows.now }
         ensures { self.new ≡ self.old }
     {

@@ -4,7 +4,7 @@ use std::alloc::{AllocError, Global};
 
 /// An arc whose flow is to change.
 #[derive(Clone, Copy)]
-pub struct Change {
+pub struct FlowChange {
     pub arc: u32,
     /// The place of the next change at the same node: who goes over the changes writes it.
     pub next: u32,
@@ -16,7 +16,7 @@ pub struct Change {
 #[derive(Drop)]
 pub struct Wanted {
     /// Each arc whose flow is to change. What goes round in circles is left out when the proposal is tried.
-    pub changes: Vec<Change>,
+    pub changes: Vec<FlowChange>,
 }
 
 impl Wanted {
@@ -36,7 +36,7 @@ impl Wanted {
         }
         let arc = u32::try_from(k).ok()?;
         self.changes
-            .push(Change {
+            .push(FlowChange {
                 arc,
                 next: 0,
                 flow: goal,

@@ -7,7 +7,7 @@ use crate::steps::{prepare, take_up};
 use augmentation::{Apart, Excess, Scratch};
 use dimacs_text::{ProblemReader, TextFault};
 use network::{build, check_best};
-use proposals::{Change, Wanted};
+use proposals::{FlowChange, Wanted};
 use residual_graph::Graph;
 use std::alloc::{AllocError, Global};
 use std::process::Abort;
@@ -310,10 +310,10 @@ fn excess_of(rt: &impl Abort, alloc: Global, table: &[i64]) -> Result<Excess, Al
 }
 
 /// Arcs with the flow that is wanted of each, as a proposal has them.
-fn changes_of(alloc: Global, pairs: &[(u32, i64)]) -> Result<Vec<Change>, AllocError> {
+fn changes_of(alloc: Global, pairs: &[(u32, i64)]) -> Result<Vec<FlowChange>, AllocError> {
     let mut changes = Vec::with_capacity(alloc, pairs.len())?;
     for (arc, flow) in pairs {
-        changes.push(Change {
+        changes.push(FlowChange {
             arc: *arc,
             next: 0,
             flow: *flow,

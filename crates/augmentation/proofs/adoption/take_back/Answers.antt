@@ -10,7 +10,7 @@ use Rattle.augmentation.proofs.adoption.take_back.Goals as goal
 pub invariant_of-excess : goal.invariant_of-excess
 invariant_of-excess c =
     let e = c.excess.inside in
-    let j = c.args.draft.now.excess in
+    let j = c.args.trial.now.excess in
     let es = c.requires.excess_since.0 in
     let listed = c.note_unbalanced.new.unbalanced in
     let since : IsSince j es e.entries.items = subst (IsSince j es) (sym c.excess.view_is) c.requires.excess_since.1 in

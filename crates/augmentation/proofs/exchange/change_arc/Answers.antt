@@ -51,7 +51,7 @@ overflow_sub-amount c =
     omega (arith, ints, is.flow_is, is.row.low_at_least_0, is.row.cap_in, is.within.low_kept, is.within.cap_kept, is.before.low_kept, is.before.cap_kept)
 
 pub move_excess-requires : goal.move_excess-requires
-move_excess-requires c = record { row = (is_goal (goal.at.move_excess-requires c).After-min-goal).row; journal = c.requires.draft.excess }
+move_excess-requires c = record { row = (is_goal (goal.at.move_excess-requires c).After-min-goal).row; journal = c.requires.trial.excess }
 
 pub returns : goal.returns
 returns c =

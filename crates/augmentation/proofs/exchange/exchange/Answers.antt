@@ -8,11 +8,11 @@ use Rattle.augmentation.proofs.exchange.exchange.Goals as goal
 use Rattle.augmentation.proofs.exchange.exchange.Goals.{After-change_arcs}
 
 -- the journals note the changes
-flow_since : (c : After-change_arcs) → IsSince c.change_arcs.new.draft.flow c.args.flow.now c.change_arcs.new.flow
-flow_since c = c.change_arcs.ensures.flow_led.since c.args.flow.now (c.clear.ensures.since c.args.flow.now c.requires.draft.flow.room)
+flow_since : (c : After-change_arcs) → IsSince c.change_arcs.new.trial.flow c.args.flow.now c.change_arcs.new.flow
+flow_since c = c.change_arcs.ensures.flow_led.since c.args.flow.now (c.clear.ensures.since c.args.flow.now c.requires.trial.flow.room)
 
-excess_since : (c : After-change_arcs) → IsSince c.change_arcs.new.draft.excess c.args.excess.now c.change_arcs.new.excess
-excess_since c = c.change_arcs.ensures.excess_led.since c.args.excess.now (c.clear-2.ensures.since c.args.excess.now c.requires.draft.excess.room)
+excess_since : (c : After-change_arcs) → IsSince c.change_arcs.new.trial.excess c.args.excess.now c.change_arcs.new.excess
+excess_since c = c.change_arcs.ensures.excess_led.since c.args.excess.now (c.clear-2.ensures.since c.args.excess.now c.requires.trial.excess.room)
 
 pub returns-clause-some : goal.returns-clause-some
 returns-clause-some c =
@@ -22,7 +22,7 @@ returns-clause-some c =
     let y = c.change_arcs.new.flow in
     let f = c.change_arcs.new.excess in
     let sized : length f ≡ length e = c.change_arcs.ensures.excess_led.same_length in
-    IfSome_then c.units_given.result {P = λ n. (before : List ℤ) → IsSince c.change_arcs.new.draft.excess before f → AreNearer before f × (n + left f ≡ left before)} c.units_given.ensures
+    IfSome_then c.units_given.result {P = λ n. (before : List ℤ) → IsSince c.change_arcs.new.trial.excess before f → AreNearer before f × (n + left f ≡ left before)} c.units_given.ensures
     (λ n gave. record {
       ranks = c.ranks.result.now;
       change = record {

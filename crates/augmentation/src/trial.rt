@@ -15,18 +15,18 @@ const MOST_ROWS: usize = 200_001;
 
 /// What stood in the flow and in the excess before a proposal is tried on them, and the order of its nodes.
 #[derive(Drop)]
-pub struct Draft {
+pub struct Trial {
     pub flow: Journal,
     pub excess: Journal,
     pub order: Order,
 }
 
-impl Draft {
+impl Trial {
     /// Tables for so many entries, and for the flows of so many arcs.
     ///
     /// # Errors
     /// Memory for a table was refused.
-    pub fn new(alloc: Global, entries: usize, arcs: usize) -> Result<Draft, AllocError>
+    pub fn new(alloc: Global, entries: usize, arcs: usize) -> Result<Trial, AllocError>
         requires { entries ≤ row_limit }
         ensures flow { IfOk result (λ d. IsJournal d.flow) }
         ensures excess { IfOk result (λ d. IsJournalFor entries d.excess) }
@@ -36,7 +36,7 @@ impl Draft {
         let excess = Journal::new(alloc, entries);
         let order = Order::new(alloc, entries);
         let (flow, (excess, order)) = both(flow, both(excess, order))?;
-        Ok(Draft {
+        Ok(Trial {
             flow,
             excess,
             order,
