@@ -208,19 +208,29 @@ pub fn lower_inside<const AHEAD: bool>(
     true
 }
 
-/// Lists the residual arcs out of the set, and gives what lies in it.
+/// Lists the residual arcs out of the set that may be needed, and gives what lies in it.
 pub fn survey_set<const AHEAD: bool>(proposal: &Proposal, sets: &mut Sets) -> i64
     requires sets { sets.old.reach ≡ proposal.now }
     ensures { sets.new.reach ≡ sets.old.reach }
 {
-    sets.candidates.clear();
-    let mut held: i64 = 0;
+    let held = held_inside::<AHEAD>(proposal, &sets.reach);
+    sets.candidates.begin(held);
     for u in sets.reach.inside() {
         let u = *u as usize;
-        held = held.wrapping_add(proposal.excess::<AHEAD>(u));
         let looks = proposal.ends().at(u).links.len() as u64;
         sets.looks = sets.looks.saturating_add(looks);
         survey_out::<AHEAD>(proposal, &sets.reach, &mut sets.candidates, u);
+    }
+    held
+}
+
+/// What lies in the set.
+fn held_inside<const AHEAD: bool>(proposal: &Proposal, reach: &Reach) -> i64
+    requires { reach.now ≡ proposal.now }
+{
+    let mut held: i64 = 0;
+    for u in reach.inside() {
+        held = held.wrapping_add(proposal.excess::<AHEAD>(*u as usize));
     }
     held
 }

@@ -46,7 +46,7 @@ fn survey<const AHEAD: bool>(proposal: &Proposal, sets: &mut Sets, s: usize)
     ensures { sets.new.reach ≡ sets.old.reach }
 {
     sets.tight.clear();
-    sets.candidates.clear();
+    sets.candidates.begin(proposal.excess::<AHEAD>(s));
     let potential = proposal.potential(s);
     let ends = proposal.ends().at(s);
     sets.looks = sets.looks.saturating_add(ends.links.len() as u64);
@@ -115,7 +115,7 @@ fn lower_node<const AHEAD: bool>(
         return false;
     }
     fill_below::<AHEAD>(proposal, ring, &sets.candidates, shift);
-    sets.candidates.split(shift, &mut sets.tight);
+    sets.candidates.list_tight(shift, &mut sets.tight);
     true
 }
 
