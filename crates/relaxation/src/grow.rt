@@ -9,7 +9,7 @@ use crate::proposal::Proposal;
 use crate::reach::Reach;
 use crate::ring::Ring;
 use crate::sets::Sets;
-use crate::step::{fill_below, wake};
+use crate::step::{fill_below, open_cost, wake};
 use containers::Places;
 
 /// Why a set grows no more.
@@ -127,7 +127,8 @@ fn look_on<const AHEAD: bool>(proposal: &Proposal, reach: &mut Reach, u: usize) 
     for (k, link) in ends.links.iter().enumerate() {
         let more = link.room::<AHEAD>();
         let v = link.other as usize;
-        if more <= 0 || proposal.potential(v) != potential + link.cost || reach.is_inside(v) {
+        // Few arcs are tight, so a processor seldom guesses wrong here; of those at a node half are open.
+        if proposal.potential(v) != potential + link.cost || more <= 0 || reach.is_inside(v) {
             continue;
         }
         if reach.note(v, ends.first + k as u32, more) && proposal.excess::<AHEAD>(v) < 0 {
@@ -248,11 +249,10 @@ fn survey_out<const AHEAD: bool>(
     let potential = proposal.potential(u);
     let ends = proposal.ends().at(u);
     for (k, link) in ends.links.iter().enumerate() {
-        let room = link.room::<AHEAD>();
-        if room > 0 && !reach.is_inside(link.other as usize) {
-            let reduced_cost = proposal.reduced_cost::<AHEAD>(potential, link);
+        let reduced_cost = open_cost::<AHEAD>(proposal, potential, link);
+        if candidates.may_need(reduced_cost) && !reach.is_inside(link.other as usize) {
             let place = ends.first + k as u32;
-            candidates.add(Candidate::new(reduced_cost, place, room));
+            candidates.add(Candidate::new(reduced_cost, place, link.room::<AHEAD>()));
         }
     }
 }
