@@ -72,12 +72,8 @@ fn leaves_open(proposal: &Proposal, least: i64) -> bool {
     for v in 0..proposal.entries() {
         for link in proposal.ends().at(v).links {
             let room = link.room::<true>();
-            if room > 0 {
-                all = all.saturating_add(1);
-                if room < least {
-                    closed = closed.saturating_add(1);
-                }
-            }
+            all = all.saturating_add(u64::from(room > 0));
+            closed = closed.saturating_add(u64::from(room > 0 && room < least));
         }
     }
     closed.saturating_mul(100) <= all.saturating_mul(CLOSED_PERCENT)
@@ -106,7 +102,8 @@ fn fill_at(proposal: &mut Proposal, v: usize)
             return;
         };
         let room = link.room::<true>();
-        if proposal.is_open(room) && proposal.reduced_cost::<true>(potential, &link) < 0 {
+        let reduced_cost = proposal.reduced_cost::<true>(potential, &link);
+        if reduced_cost < 0 && proposal.is_open(room) {
             proposal.push::<true>(place, room);
         }
     }

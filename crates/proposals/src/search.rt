@@ -291,9 +291,9 @@ impl Search {
         ensures { self.new ≡ self.old }
     {
         let reach = self.records.reach(u);
-        let depth = self.records.get(u).depth.saturating_add(1);
+        let depth = self.records.get(u).depth.wrapping_add(1);
         let links = proposal.ends().at(u).links;
-        self.looks = self.looks.saturating_add(links.len() as u64);
+        self.looks = self.looks.wrapping_add(links.len() as u64);
         let mut next = 0;
         while let Some(k) = nearer_from::<AHEAD>(&self.records, proposal, links, next, reach) {
             let link = &links[k];

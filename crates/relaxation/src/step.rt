@@ -1,13 +1,15 @@
 //! A step at a node out of balance.
 
-ghost use Rattle.std.specs.Prelude.{◌≡◌, ◌<◌, ◌^◌, ℕ, length};
+ghost use Rattle.std.specs.Prelude.{◌≡◌, ◌<◌, ◌^◌, ℕ};
+ghost use Rattle.relaxation.specs.Limits.{IsWithin, potential_limit};
 
-use crate::candidates::{Candidate, Candidates};
+use crate::candidates::{CLOSED, Candidate, Candidates};
 use crate::grow::grow;
 use crate::proposal::Proposal;
 use crate::ring::Ring;
 use crate::sets::Sets;
 use containers::Places;
+use residual_ends::Link;
 
 /// Brings a node towards balance that is in excess on this side. Where its tight residual arcs cannot carry what lies there,
 /// it fills them and lowers its potential to where the next ones can; then it grows a set from the node.
@@ -46,23 +48,36 @@ fn survey<const AHEAD: bool>(proposal: &Proposal, sets: &mut Sets, s: usize)
     ensures { sets.new.reach ≡ sets.old.reach }
 {
     sets.tight.clear();
-    sets.candidates.clear();
+    sets.candidates.begin(proposal.excess::<AHEAD>(s));
     let potential = proposal.potential(s);
     let ends = proposal.ends().at(s);
     sets.looks = sets.looks.saturating_add(ends.links.len() as u64);
     for (k, link) in ends.links.iter().enumerate() {
-        let room = link.room::<AHEAD>();
-        if room <= 0 || link.other as usize == s {
+        let reduced_cost = open_cost::<AHEAD>(proposal, potential, link);
+        if !sets.candidates.may_need(reduced_cost) || link.other as usize == s {
             continue;
         }
-        let reduced_cost = proposal.reduced_cost::<AHEAD>(potential, link);
         let place = ends.first + k as u32;
         if reduced_cost == 0 {
             sets.tight.add(place);
         } else {
             sets.candidates
-                .add(Candidate::new(reduced_cost, place, room));
+                .add(Candidate::new(reduced_cost, place, link.room::<AHEAD>()));
         }
+    }
+}
+
+/// The reduced cost of a residual arc that leads on from a node of this potential, as a side sees it, if it has room.
+#[inline(always)]
+pub fn open_cost<const AHEAD: bool>(proposal: &Proposal, potential: i64, link: &Link) -> i64
+    requires other { link.now.other < proposal.now }
+    requires potential { IsWithin potential_limit potential }
+{
+    let reduced_cost = proposal.reduced_cost::<AHEAD>(potential, link);
+    if link.room::<AHEAD>() > 0 {
+        reduced_cost
+    } else {
+        CLOSED
     }
 }
 
@@ -115,7 +130,7 @@ fn lower_node<const AHEAD: bool>(
         return false;
     }
     fill_below::<AHEAD>(proposal, ring, &sets.candidates, shift);
-    sets.candidates.split(shift, &mut sets.tight);
+    sets.candidates.list_tight(shift, &mut sets.tight);
     true
 }
 
