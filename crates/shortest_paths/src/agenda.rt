@@ -76,15 +76,24 @@ impl Agenda {
     {
         if key == self.present {
             self.drop_out(v);
-            if self.ready.len() < self.ready.capacity() {
-                self.ready.push_reserved(v);
-            }
+            self.make_ready(v);
         } else if self.waits[v as usize] {
             self.heap.lower(v as usize, key);
         } else {
             self.heap.add(v as usize, key);
             self.waits[v as usize] = true;
             self.waiting = self.waiting.saturating_add(1);
+        }
+    }
+
+    /// Has a node be ready that does not wait.
+    #[inline(always)]
+    pub fn make_ready(&mut self, v: u32)
+        requires node { v < self.old }
+        ensures { self.new ≡ self.old }
+    {
+        if self.ready.len() < self.ready.capacity() {
+            self.ready.push_reserved(v);
         }
     }
 

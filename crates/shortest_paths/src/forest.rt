@@ -6,7 +6,7 @@ use crate::residual_network::Residual;
 use crate::step::Step;
 use std::alloc::{AllocError, Global};
 
-/// The residual arc by which a node hangs on another one, and the nodes that are joined to it. Node 0 stands for none.
+/// The residual arc by which a node hangs on another one, and the nodes that hang on it. Node 0 stands for none.
 #[derive(Clone, Copy)]
 pub(crate) struct Joint {
     /// The end at which the residual arc leaves; no arc has this end where it is not known.
@@ -17,31 +17,33 @@ pub(crate) struct Joint {
     /// Whether the residual arc has room, and whether the one back to that node has.
     pub is_open: bool,
     pub is_open_back: bool,
-    /// Whether it is joined to that node.
-    pub is_joined: bool,
     pub is_reached: bool,
-    /// The first node that is joined to it, and the next one that is joined to the same node.
+    /// The first node that hangs on it.
     pub first: u32,
+    /// The nodes behind it and before it among those that hang on the same node.
     pub next: u32,
+    pub before: u32,
 }
 
-/// A node that hangs on none, and to which none is joined.
+/// A node that hangs on none, and on which none hangs.
 const ALONE: Joint = Joint {
     end: u32::MAX,
     above: 0,
     cost: 0,
     is_open: false,
     is_open_back: false,
-    is_joined: false,
     is_reached: false,
     first: 0,
     next: 0,
+    before: 0,
 };
 
 /// The joints of all nodes. What stands of residual arcs in them is a copy, since the rows lie far apart.
 #[derive(Drop)]
 pub(crate) struct Forest {
     joints: Vec<Joint>,
+    /// Whether all nodes were hung since all were alone.
+    is_grown: bool,
 }
 
 impl Forest {
@@ -51,54 +53,36 @@ impl Forest {
     /// Memory for a table was refused.
     pub fn new(alloc: Global, entries: usize) -> Result<Forest, AllocError> {
         let joints = vec![in alloc; ALONE; entries]?;
-        Ok(Forest { joints })
+        Ok(Forest {
+            joints,
+            is_grown: false,
+        })
     }
 
-    /// Forgets by which residual arcs all nodes hang.
+    /// Leaves all nodes alone.
     pub fn clear(&mut self) {
         self.joints.fill(ALONE);
+        self.is_grown = false;
     }
 
-    /// Forgets that of the nodes at these arcs, which may have another row or another flow.
-    pub fn forget_at(&mut self, residual: Residual<'_>, arcs: &[u32]) {
-        for arc in arcs {
-            let k = *arc as usize;
-            if k < residual.graph.rows().len() {
-                let row = residual.graph.row(k);
-                self.forget(row.tail);
-                self.forget(row.head);
-            }
-        }
+    /// Whether all nodes were hung since all were alone.
+    pub fn is_grown(&self) -> bool {
+        self.is_grown
     }
 
-    /// Forgets by which residual arcs these nodes hang.
-    pub fn forget_all(&mut self, nodes: &[u32]) {
-        for node in nodes {
-            self.forget(*node);
-        }
+    /// Notes that all nodes were hung.
+    pub fn grow(&mut self) {
+        self.is_grown = true;
     }
 
-    /// Forgets by which residual arc a node hangs.
-    fn forget(&mut self, v: u32) {
-        if (v as usize) < self.joints.len() {
-            self.joints[v as usize] = ALONE;
-        }
-    }
-
-    /// Parts all nodes.
+    /// Has all nodes count as not reached.
     pub fn part(&mut self) {
         for v in 0..self.joints.len() {
-            self.joints[v] = Joint {
-                is_joined: false,
-                is_reached: false,
-                first: 0,
-                next: 0,
-                ..self.joints[v]
-            };
+            self.joints[v].is_reached = false;
         }
     }
 
-    /// How a node is joined.
+    /// How a node hangs.
     #[inline(always)]
     pub fn joint(&self, v: u32) -> Joint {
         if (v as usize) < self.joints.len() {
@@ -108,13 +92,16 @@ impl Forest {
         }
     }
 
-    /// The same of a node that hangs by the residual arc that leaves at this end.
+    /// Whether a node was reached; one that is none was.
     #[inline(always)]
-    pub fn hung(&mut self, residual: Residual<'_>, v: u32, end: u32) -> Joint {
+    pub fn is_reached(&self, v: u32) -> bool {
+        (v as usize) >= self.joints.len() || self.joints[v as usize].is_reached
+    }
+
+    /// Has a node hang by the residual arc that leaves at this end, and by no other.
+    pub fn hang(&mut self, residual: Residual<'_>, v: u32, end: u32) {
+        self.take_off(v);
         let mut joint = self.joint(v);
-        if joint.end == end || v as usize >= self.joints.len() {
-            return joint;
-        }
         joint.end = end;
         joint.above = 0;
         if let Some(step) = Step::at(residual, end) {
@@ -125,19 +112,50 @@ impl Forest {
                 joint.is_open_back = step.is_open_back;
             }
         }
-        self.joints[v as usize] = joint;
-        joint
+        joint.before = 0;
+        joint.next = self.joint(joint.above).first;
+        self.put(v, joint);
+        if joint.above != 0 {
+            self.set_before(joint.next, v);
+            self.set_first(joint.above, v);
+        }
     }
 
-    /// Joins a node to that on which it hangs.
-    #[inline(always)]
-    pub fn join(&mut self, v: u32) {
-        let place = v as usize;
-        let above = self.joint(v).above as usize;
-        if place < self.joints.len() && above < self.joints.len() {
-            self.joints[place].is_joined = true;
-            self.joints[place].next = self.joints[above].first;
-            self.joints[above].first = v;
+    /// Takes a node off the list of those that hang on the same one.
+    fn take_off(&mut self, v: u32) {
+        let joint = self.joint(v);
+        if joint.above == 0 {
+            return;
+        }
+        if joint.before == 0 {
+            self.set_first(joint.above, joint.next);
+        } else {
+            self.set_next(joint.before, joint.next);
+        }
+        self.set_before(joint.next, joint.before);
+    }
+
+    fn put(&mut self, v: u32, joint: Joint) {
+        if (v as usize) < self.joints.len() {
+            self.joints[v as usize] = joint;
+        }
+    }
+
+    fn set_first(&mut self, v: u32, first: u32) {
+        if (v as usize) < self.joints.len() {
+            self.joints[v as usize].first = first;
+        }
+    }
+
+    fn set_next(&mut self, v: u32, next: u32) {
+        if (v as usize) < self.joints.len() {
+            self.joints[v as usize].next = next;
+        }
+    }
+
+    fn set_before(&mut self, v: u32, before: u32) {
+        if (v as usize) < self.joints.len() {
+            self.joints[v as usize].before = before;
         }
     }
 

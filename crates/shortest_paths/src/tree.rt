@@ -7,6 +7,7 @@ ghost use Rattle.std.specs.Prelude.{◌≡◌, ◌<◌, ◌≤◌, IfOk, IfSome,
 ghost use Rattle.residual_graph.specs.Limits.{row_limit};
 ghost use Rattle.shortest_paths.specs.Tree.{AgreeUnmarked, AreArcsNoted, IsNotedIn, IsTreeOf, StaysHeld};
 
+mod joining;
 mod near;
 mod whole;
 
@@ -21,8 +22,8 @@ use std::alloc::{AllocError, Global};
 use std::marker::Model;
 use tracked::{Touched, Tracked};
 
-/// The label of a node that is loose: any other is lower.
-const FAR: i64 = i64::MAX;
+/// The label of a node that is loose: any other is lower, also where a cost is taken off this one.
+const FAR: i64 = i64::MAX / 2;
 
 /// At most so many times as many nodes are settled as there are nodes, some of them again.
 const MOST_SETTLED: usize = 4;
@@ -291,9 +292,10 @@ impl Tree {
         if let Knowledge::Nothing = self.knowledge {
             return false;
         }
-        self.forest.forget_all(self.beside.places());
-        self.forest.forget_at(residual, written);
-        self.mend_near(residual, written) || self.mend_whole(residual, written)
+        self.rejoin_changed(residual, written);
+        let is_mended = self.mend_near(residual, written) || self.mend_whole(residual, written);
+        self.rejoin_rehung(residual);
+        is_mended
     }
 
     /// How many arcs may have changed, some of them counted twice: those that are noted, and then these.
@@ -316,7 +318,7 @@ impl Tree {
     fn potential(&self, residual: Residual<'_>, v: usize) -> i64
         requires node { v < length residual.potentials.now }
     {
-        residual.potentials[v].saturating_sub(self.taken_off)
+        lowered(residual.potentials[v], self.taken_off)
     }
 
     /// Gives a node a label and a predecessor.
@@ -337,18 +339,24 @@ impl Tree {
     {
         Predecessor {
             end,
-            rank: self.predecessors.get(u as usize).rank.saturating_add(1),
+            rank: self.rank_beyond(u),
             is_open: false,
         }
+    }
+
+    /// The rank of a node that gets its label from this one.
+    #[inline(always)]
+    fn rank_beyond(&self, u: u32) -> u32
+        requires node { u < length self.now.labels }
+    {
+        self.predecessors.get(u as usize).rank.saturating_add(1)
     }
 
     /// The label to which a residual arc leads.
     fn label_by(&self, step: Step) -> i64
         requires start { step.start < length self.now.labels }
     {
-        self.labels
-            .get(step.start as usize)
-            .saturating_add(step.cost)
+        raised(self.labels.get(step.start as usize), step.cost)
     }
 
     /// Has the loose nodes wait.
@@ -379,10 +387,7 @@ impl Tree {
         let ends = residual.ends.at(v as usize);
         for i in 0..ends.links.len() {
             let link = ends.links[i];
-            let by = self
-                .labels
-                .get(link.other as usize)
-                .saturating_sub(link.cost);
+            let by = lowered(self.labels.get(link.other as usize), link.cost);
             if by < label && link.room_back::<true>() > 0 && !self.agenda.waits(link.other) {
                 label = by;
                 predecessor = self.beyond(link.other, across(ends.numbers[i]));
@@ -402,7 +407,7 @@ impl Tree {
         ensures sized { IsTreeOf residual.entry self.new }
         ensures held { self.new.held ≡ self.old.held }
     {
-        let key = label.saturating_sub(self.potential(residual, v as usize));
+        let key = lowered(label, self.potential(residual, v as usize));
         self.put(v as usize, label, predecessor);
         self.agenda.add(v, key);
     }
@@ -434,15 +439,28 @@ impl Tree {
         ensures held { self.new.held ≡ self.old.held }
     {
         let ends = residual.ends.at(u as usize);
+        let label = self.labels.get(u as usize);
         for i in 0..ends.links.len() {
             let link = ends.links[i];
-            let label = self.labels.get(u as usize).saturating_add(link.cost);
-            if label < self.labels.get(link.other as usize) && link.room::<true>() > 0 {
+            let by = raised(label, link.cost);
+            if by < self.labels.get(link.other as usize) && link.room::<true>() > 0 {
                 let predecessor = self.beyond(u, ends.numbers[i]);
-                self.wait(residual, link.other, label, predecessor);
+                self.wait(residual, link.other, by, predecessor);
             }
         }
     }
+}
+
+/// A label with a cost put on it. No sum of a right label wraps, since costs are far smaller.
+#[inline(always)]
+fn raised(label: i64, cost: i64) -> i64 {
+    label.wrapping_add(cost)
+}
+
+/// A label with a cost taken off it, or how far it is above another one.
+#[inline(always)]
+fn lowered(label: i64, cost: i64) -> i64 {
+    label.wrapping_sub(cost)
 }
 
 /// Whether these are so many arcs that they are not noted.

@@ -3,7 +3,7 @@
 ghost use Rattle.std.specs.Prelude.{◌≡◌, ◌<◌, length};
 ghost use Rattle.shortest_paths.specs.Tree.{IsTreeOf};
 
-use super::{FAR, Tree};
+use super::{FAR, Tree, lowered};
 use crate::predecessor::Predecessor;
 use crate::residual_network::Residual;
 use crate::step::{Step, across, tail_of};
@@ -20,6 +20,9 @@ const SOME_LOOSE: usize = 64;
 
 /// Where more than one node in so many moved, the whole tree is mended.
 const MOST_MOVED: usize = 8;
+
+/// One node in so many is asked.
+const A_SAMPLE: usize = 13;
 
 impl Tree {
     /// Mends the tree there, if few nodes are to be looked at, and says whether that was so.
@@ -103,11 +106,7 @@ impl Tree {
         let ends = residual.ends.at(v as usize);
         for i in 0..ends.links.len() {
             let link = ends.links[i];
-            if self
-                .labels
-                .get(link.other as usize)
-                .saturating_sub(link.cost)
-                == label
+            if lowered(self.labels.get(link.other as usize), link.cost) == label
                 && link.room_back::<true>() > 0
                 && self.predecessors.get(link.other as usize).rank < hung.rank
             {
@@ -120,6 +119,7 @@ impl Tree {
         }
         self.predecessors
             .set(v as usize, Predecessor { end, ..hung });
+        self.forest.hang(residual, v, end);
         true
     }
 
@@ -152,26 +152,57 @@ impl Tree {
         if u as usize >= residual.potentials.len() {
             return;
         }
-        let ends = residual.ends.at(u as usize);
-        for i in 0..ends.links.len() {
-            let other = ends.links[i].other;
-            if self.hangs(other, ends.numbers[i]) {
-                self.loosen(residual, other);
+        let mut below = self.forest.joint(u).first;
+        for _ in 0..residual.potentials.len() {
+            if below as usize >= residual.potentials.len() || below == 0 {
+                return;
             }
+            let joint = self.forest.joint(below);
+            if self.hangs(below, joint.end) {
+                self.loosen(residual, below);
+            }
+            below = joint.next;
         }
     }
 
     /// Whether the potentials are further from the labels, or nearer, at many nodes than they are at most.
     fn have_many_moved(&self, residual: Residual<'_>) -> bool {
-        let labels = self.labels.entries();
-        let usual = usual_gap(residual.potentials, labels);
+        let usual = self.usual_gap(residual);
+        let seen = residual.potentials.len() / A_SAMPLE;
         let mut moved: usize = 0;
-        for (potential, label) in residual.potentials.iter().zip(labels) {
-            if potential.saturating_sub(*label) != usual {
+        for i in 0..seen {
+            if self.gap(residual, i * A_SAMPLE) != usual {
                 moved = moved.saturating_add(1);
             }
         }
-        moved > labels.len() / MOST_MOVED
+        moved > seen / MOST_MOVED
+    }
+
+    /// How far potentials are from labels at most nodes, if it is the same at so many.
+    fn usual_gap(&self, residual: Residual<'_>) -> i64 {
+        let mut usual = 0;
+        let mut votes: usize = 0;
+        for i in 0..residual.potentials.len() / A_SAMPLE {
+            let gap = self.gap(residual, i * A_SAMPLE);
+            if gap == usual {
+                votes = votes.saturating_add(1);
+            } else if votes > 0 {
+                votes = votes.saturating_sub(1);
+            } else {
+                usual = gap;
+                votes = 1;
+            }
+        }
+        usual
+    }
+
+    /// How far the potential of a node is from its label.
+    fn gap(&self, residual: Residual<'_>, v: usize) -> i64 {
+        if v < residual.potentials.len() && v < self.labels.entries().len() {
+            lowered(residual.potentials[v], self.labels.get(v))
+        } else {
+            0
+        }
     }
 
     /// Improves the label to which the residual arc leads that leaves at an end.
@@ -189,22 +220,4 @@ impl Tree {
             self.wait(residual, step.far, label, predecessor);
         }
     }
-}
-
-/// How far potentials are from labels at most nodes, if it is the same at so many.
-fn usual_gap(potentials: &[i64], labels: &[i64]) -> i64 {
-    let mut usual = 0;
-    let mut votes: usize = 0;
-    for (potential, label) in potentials.iter().zip(labels) {
-        let gap = potential.saturating_sub(*label);
-        if gap == usual {
-            votes = votes.saturating_add(1);
-        } else if votes > 0 {
-            votes = votes.saturating_sub(1);
-        } else {
-            usual = gap;
-            votes = 1;
-        }
-    }
-    usual
 }

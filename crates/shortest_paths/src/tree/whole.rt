@@ -4,7 +4,7 @@
 ghost use Rattle.std.specs.Prelude.{◌≡◌, ◌<◌, length};
 ghost use Rattle.shortest_paths.specs.Tree.{IsTreeOf};
 
-use super::{FAR, MOST_SETTLED, Tree};
+use super::{FAR, MOST_SETTLED, Tree, entry, lowered, raised};
 use crate::predecessor::Predecessor;
 use crate::residual_network::Residual;
 use crate::step::{Step, across, tail_of};
@@ -25,8 +25,9 @@ impl Tree {
         ensures held { self.new.held ≡ self.old.held }
     {
         self.agenda.clear();
+        self.rejoin_rehung(residual);
         self.relabel_all(residual);
-        self.join_all(residual);
+        self.reach_tops(residual);
         self.reach_along_all(residual, written);
         self.reach_others(residual);
         self.release_others(residual);
@@ -54,9 +55,8 @@ impl Tree {
         }
     }
 
-    /// Joins each node to that on which it hangs, where it does at its label, and reaches what is joined to nodes of label 0. The
-    /// other nodes are the tops of blocks.
-    fn join_all(&mut self, residual: Residual<'_>)
+    /// Reaches the nodes of label 0, and what hangs together with them.
+    fn reach_tops(&mut self, residual: Residual<'_>)
         requires sized { IsTreeOf residual self.old }
         ensures sized { IsTreeOf residual.entry self.new }
         ensures held { self.new.held ≡ self.old.held }
@@ -64,31 +64,10 @@ impl Tree {
         self.forest.part();
         for v in 0..residual.potentials.len() {
             if self.labels.get(v) >= 0 {
-                self.reach(v as u32, Predecessor::root());
-            } else {
-                self.join(residual, v as u32);
+                self.reach(v as u32, 0, 0);
             }
         }
         self.reach_joined(residual, 0);
-    }
-
-    /// Joins a node to that on which it hangs, where it does at its label.
-    #[inline(always)]
-    fn join(&mut self, residual: Residual<'_>, v: u32)
-        requires sized { IsTreeOf residual self.old }
-        requires node { v < length residual.potentials.now }
-        ensures { self.new ≡ self.old }
-    {
-        let end = self.predecessors.get(v as usize).end;
-        let joint = self.forest.hung(residual, v, end);
-        let above = joint.above as usize;
-        if above != 0
-            && above < self.labels.entries().len()
-            && self.labels.get(above).saturating_add(joint.cost) == self.labels.get(v as usize)
-            && joint.is_open
-        {
-            self.forest.join(v);
-        }
     }
 
     /// Reaches nodes along the residual arcs that changed, as long as there is one: along a path of pushes blocks hang
@@ -98,12 +77,17 @@ impl Tree {
         ensures sized { IsTreeOf residual.entry self.new }
         ensures held { self.new.held ≡ self.old.held }
     {
+        self.loose.clear();
+        for i in 0..self.changed(written) {
+            let arc = self.changed_at(written, i);
+            self.reach_along(residual, tail_of(arc));
+            self.reach_along(residual, across(tail_of(arc)));
+        }
         for _ in 0..MOST_ROUNDS {
             let before = self.agenda.ready();
-            for i in 0..self.changed(written) {
-                let arc = self.changed_at(written, i);
-                self.reach_along(residual, tail_of(arc));
-                self.reach_along(residual, across(tail_of(arc)));
+            for i in 0..self.loose.len() {
+                let end = entry(&self.loose, i);
+                self.reach_again(residual, end);
             }
             if self.agenda.ready() == before {
                 return;
@@ -111,7 +95,8 @@ impl Tree {
         }
     }
 
-    /// Reaches the node to which the residual arc leads at its label that leaves at an end, from one that was reached.
+    /// Reaches the node to which the residual arc leads at its label that leaves at an end, from one that was reached. If that
+    /// was not, the end is kept in the list of loose nodes, for another try.
     fn reach_along(&mut self, residual: Residual<'_>, end: u32)
         requires sized { IsTreeOf residual self.old }
         ensures sized { IsTreeOf residual.entry self.new }
@@ -120,8 +105,30 @@ impl Tree {
         let Some(step) = Step::at(residual, end) else {
             return;
         };
-        if step.is_open && self.label_by(step) == self.labels.get(step.far as usize) {
+        if self.forest.is_reached(step.far)
+            || !step.is_open
+            || self.label_by(step) != self.labels.get(step.far as usize)
+        {
+            return;
+        }
+        if self.forest.is_reached(step.start) {
             self.reach_beyond(residual, step.start, step.far, end);
+        } else if self.loose.len() < self.loose.capacity() {
+            self.loose.push_reserved(end);
+        }
+    }
+
+    /// Reaches the node to which a residual arc leads, of which it is known that it does at its label, from one that was
+    /// reached.
+    fn reach_again(&mut self, residual: Residual<'_>, end: u32)
+        requires sized { IsTreeOf residual self.old }
+        ensures sized { IsTreeOf residual.entry self.new }
+        ensures held { self.new.held ≡ self.old.held }
+    {
+        if let Some(step) = Step::at(residual, end) {
+            if self.forest.is_reached(step.start) {
+                self.reach_beyond(residual, step.start, step.far, end);
+            }
         }
     }
 
@@ -147,7 +154,7 @@ impl Tree {
             self.reach_at(residual, u);
         }
         for v in 0..nodes {
-            if !self.forest.joint(v as u32).is_reached {
+            if !self.forest.is_reached(v as u32) {
                 self.reach_at(residual, v as u32);
             }
         }
@@ -161,14 +168,14 @@ impl Tree {
         ensures held { self.new.held ≡ self.old.held }
     {
         let ends = residual.ends.at(v as usize);
+        let label = self.labels.get(v as usize);
         for i in 0..ends.links.len() {
             let link = ends.links[i];
-            let label = self.labels.get(v as usize).saturating_add(link.cost);
-            if label != self.labels.get(link.other as usize) {
+            if raised(label, link.cost) != self.labels.get(link.other as usize) {
                 continue;
             }
             let end = ends.numbers[i];
-            if self.forest.joint(v).is_reached {
+            if self.forest.is_reached(v) {
                 if link.room::<true>() > 0 {
                     self.reach_beyond(residual, v, link.other, end);
                 }
@@ -186,34 +193,40 @@ impl Tree {
         ensures sized { IsTreeOf residual.entry self.new }
         ensures held { self.new.held ≡ self.old.held }
     {
-        if self.forest.joint(far).is_reached || !self.forest.joint(start).is_reached {
+        if self.forest.is_reached(far) || !self.forest.is_reached(start) {
             return;
         }
         let place = self.agenda.ready();
-        let predecessor = self.beyond(start, end);
-        self.reach(far, predecessor);
+        let rank = self.rank_beyond(start);
+        self.reach(far, end, rank);
         self.reach_joined(residual, place);
     }
 
-    /// Reaches a node that was not reached, and gives it this predecessor, unless its own is of the same residual arc and its
-    /// rank is as high.
-    fn reach(&mut self, v: u32, predecessor: Predecessor)
+    /// Reaches a node that was not reached, and has this end and this rank tell how it got its label, unless it is told by that
+    /// end and its rank is as high.
+    #[inline(always)]
+    fn reach(&mut self, v: u32, end: u32, rank: u32)
         ensures sized { length self.new.labels ≡ length self.old.labels }
         ensures held { self.new.held ≡ self.old.held }
     {
         let place = v as usize;
-        if place >= self.labels.entries().len() || self.forest.joint(v).is_reached {
+        if place >= self.labels.entries().len() || self.forest.is_reached(v) {
             return;
         }
         let before = self.predecessors.get(place);
-        if before.end != predecessor.end || before.rank < predecessor.rank {
+        if before.end != end || before.rank < rank {
+            let predecessor = Predecessor {
+                end,
+                rank,
+                is_open: false,
+            };
             self.predecessors.set(place, predecessor);
         }
         self.forest.reach(v);
-        self.agenda.add(v, 0);
+        self.agenda.make_ready(v);
     }
 
-    /// Reaches all that is joined to the nodes that were reached, from this one on in the order in which they were.
+    /// Reaches all that hangs together with the nodes that were reached, from this one on in the order in which they were.
     fn reach_joined(&mut self, residual: Residual<'_>, from: usize)
         requires sized { IsTreeOf residual self.old }
         ensures sized { IsTreeOf residual.entry self.new }
@@ -227,16 +240,20 @@ impl Tree {
         }
     }
 
-    /// Reaches the nodes that are joined to a node, and the one to which it is joined, where there is room back to that.
+    /// Reaches the nodes that hang on a node, and the one on which it hangs, where the residual arc leads there at its label.
     fn reach_from(&mut self, v: u32)
         requires node { v < length self.old.labels }
         ensures sized { length self.new.labels ≡ length self.old.labels }
         ensures held { self.new.held ≡ self.old.held }
     {
+        let label = self.labels.get(v as usize);
+        let rank = self.rank_beyond(v);
         let joint = self.forest.joint(v);
-        if joint.is_joined && joint.is_open_back {
-            let predecessor = self.beyond(v, across(joint.end));
-            self.reach(joint.above, predecessor);
+        if joint.above != 0
+            && joint.is_open_back
+            && self.has_label(joint.above, lowered(label, joint.cost))
+        {
+            self.reach(joint.above, across(joint.end), rank);
         }
         let mut below = joint.first;
         for _ in 0..self.labels.entries().len() {
@@ -244,10 +261,17 @@ impl Tree {
                 return;
             }
             let joint = self.forest.joint(below);
-            let predecessor = self.beyond(v, joint.end);
-            self.reach(below, predecessor);
+            if joint.is_open && self.has_label(below, raised(label, joint.cost)) {
+                self.reach(below, joint.end, rank);
+            }
             below = joint.next;
         }
+    }
+
+    /// Whether this is the label of a node.
+    #[inline(always)]
+    fn has_label(&self, v: u32, label: i64) -> bool {
+        (v as usize) < self.labels.entries().len() && self.labels.get(v as usize) == label
     }
 
     /// Has the nodes that were not reached wait: with the labels that those which were lead to, where these are most, and else
@@ -264,7 +288,7 @@ impl Tree {
         }
         self.loose.clear();
         for v in 0..nodes {
-            if self.forest.joint(v as u32).is_reached {
+            if self.forest.is_reached(v as u32) {
                 continue;
             }
             if !are_few {

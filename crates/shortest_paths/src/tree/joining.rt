@@ -1,0 +1,85 @@
+//! The forest of a tree of labels, which follows what is known of predecessors.
+
+ghost use Rattle.std.specs.Prelude.{◌≡◌};
+
+use super::{Tree, entry};
+use crate::residual_network::Residual;
+
+impl Tree {
+    /// Has the nodes hang in the forest as their predecessors tell, where the residual arcs of these may have changed; all of
+    /// them once all were alone.
+    pub(super) fn rejoin_changed(&mut self, residual: Residual<'_>, written: &[u32])
+        ensures { self.new ≡ self.old }
+    {
+        if self.forest.is_grown() {
+            self.rejoin_beside(residual);
+            self.rejoin_along(residual, written);
+        } else {
+            self.rejoin_all(residual);
+        }
+    }
+
+    /// Has all nodes hang so.
+    fn rejoin_all(&mut self, residual: Residual<'_>)
+        ensures { self.new ≡ self.old }
+    {
+        for v in 0..residual.potentials.len() {
+            self.rejoin(residual, v as u32);
+        }
+        self.forest.grow();
+    }
+
+    /// Has the nodes beside noted arcs hang so.
+    fn rejoin_beside(&mut self, residual: Residual<'_>)
+        ensures { self.new ≡ self.old }
+    {
+        for i in 0..self.beside.places().len() {
+            let v = entry(self.beside.places(), i);
+            self.rejoin(residual, v);
+        }
+    }
+
+    /// Has the nodes at these arcs hang so.
+    fn rejoin_along(&mut self, residual: Residual<'_>, written: &[u32])
+        ensures { self.new ≡ self.old }
+    {
+        for arc in written {
+            let k = *arc as usize;
+            if k < residual.graph.rows().len() {
+                let row = residual.graph.row(k);
+                self.rejoin(residual, row.tail);
+                self.rejoin(residual, row.head);
+            }
+        }
+    }
+
+    /// Has the nodes hang so that may have another predecessor.
+    pub(super) fn rejoin_rehung(&mut self, residual: Residual<'_>)
+        ensures { self.new ≡ self.old }
+    {
+        for i in 0..self.predecessors.places().len() {
+            let v = entry(self.predecessors.places(), i);
+            if self.forest.joint(v).end != self.end_above(v) {
+                self.rejoin(residual, v);
+            }
+        }
+    }
+
+    /// Has a node hang so.
+    fn rejoin(&mut self, residual: Residual<'_>, v: u32)
+        ensures { self.new ≡ self.old }
+    {
+        let end = self.end_above(v);
+        self.forest.hang(residual, v, end);
+    }
+
+    /// The end at which the residual arc leaves by which a node got its label, or one that no arc has.
+    fn end_above(&self, v: u32) -> u32 {
+        let predecessors = self.predecessors.entries();
+        if (v as usize) < predecessors.len() {
+            predecessors[v as usize].end
+        } else {
+            u32::MAX
+        }
+    }
+}
