@@ -38,25 +38,26 @@ const ALONE: Joint = Joint {
     next: 0,
 };
 
-/// The joints of all nodes. What stands of residual arcs in them is a copy, since the rows lie far apart.
+/// The joints of all nodes, or of none where no tree was mended yet: a first solve does not touch them. What stands of
+/// residual arcs in them is a copy, since the rows lie far apart.
 #[derive(Drop)]
 pub(crate) struct Forest {
     joints: Vec<Joint>,
 }
 
 impl Forest {
-    /// So many nodes, all alone.
+    /// Room for so many nodes.
     ///
     /// # Errors
     /// Memory for a table was refused.
     pub fn new(alloc: Global, entries: usize) -> Result<Forest, AllocError> {
-        let joints = vec![in alloc; ALONE; entries]?;
+        let joints = Vec::with_capacity(alloc, entries)?;
         Ok(Forest { joints })
     }
 
     /// Forgets by which residual arcs all nodes hang.
     pub fn clear(&mut self) {
-        self.joints.fill(ALONE);
+        self.joints.clear();
     }
 
     /// Forgets that of the nodes at these arcs, which may have another row or another flow.
@@ -87,6 +88,7 @@ impl Forest {
 
     /// Parts all nodes.
     pub fn part(&mut self) {
+        let _filled = self.joints.resize(self.joints.capacity(), ALONE);
         for v in 0..self.joints.len() {
             self.joints[v] = Joint {
                 is_joined: false,
