@@ -44,12 +44,12 @@ pub(crate) struct Trails {
 }
 
 impl Trails {
-    /// So many nodes.
+    /// Room for so many nodes, which is touched only when walks begin.
     ///
     /// # Errors
     /// Memory for the table was refused.
     pub fn new(alloc: Global, entries: usize) -> Result<Trails, AllocError> {
-        let trails = vec![in alloc; UNTRODDEN; entries]?;
+        let trails = Vec::with_capacity(alloc, entries)?;
         Ok(Trails {
             trails,
             pause: 0,
@@ -78,7 +78,8 @@ impl Trails {
 
     /// Forgets all: each hop stays.
     pub fn clear(&mut self) {
-        self.trails.fill(UNTRODDEN);
+        self.trails.clear();
+        let _filled = self.trails.resize(self.trails.capacity(), UNTRODDEN);
     }
 
     /// Forgets all: a hop without room is exchanged for any other one.

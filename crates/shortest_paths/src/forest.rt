@@ -38,41 +38,36 @@ const ALONE: Joint = Joint {
     before: 0,
 };
 
-/// The joints of all nodes. What stands of residual arcs in them is a copy, since the rows lie far apart.
+/// The joints of all nodes, or of none where no tree was mended yet: a first solve does not touch them. What stands of
+/// residual arcs in them is a copy, since the rows lie far apart.
 #[derive(Drop)]
 pub(crate) struct Forest {
     joints: Vec<Joint>,
-    /// Whether all nodes were hung since all were alone.
-    is_grown: bool,
 }
 
 impl Forest {
-    /// So many nodes, all alone.
+    /// Room for so many nodes.
     ///
     /// # Errors
     /// Memory for a table was refused.
     pub fn new(alloc: Global, entries: usize) -> Result<Forest, AllocError> {
-        let joints = vec![in alloc; ALONE; entries]?;
-        Ok(Forest {
-            joints,
-            is_grown: false,
-        })
+        let joints = Vec::with_capacity(alloc, entries)?;
+        Ok(Forest { joints })
     }
 
-    /// Leaves all nodes alone.
+    /// Forgets how nodes hang.
     pub fn clear(&mut self) {
-        self.joints.fill(ALONE);
-        self.is_grown = false;
+        self.joints.clear();
     }
 
-    /// Whether all nodes were hung since all were alone.
+    /// Whether there is a joint for each node.
     pub fn is_grown(&self) -> bool {
-        self.is_grown
+        !self.joints.is_empty()
     }
 
-    /// Notes that all nodes were hung.
+    /// Begins with all nodes alone.
     pub fn grow(&mut self) {
-        self.is_grown = true;
+        let _filled = self.joints.resize(self.joints.capacity(), ALONE);
     }
 
     /// Has all nodes count as not reached.

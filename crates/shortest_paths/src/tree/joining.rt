@@ -7,7 +7,7 @@ use crate::residual_network::Residual;
 
 impl Tree {
     /// Has the nodes hang in the forest as their predecessors tell, where the residual arcs of these may have changed; all of
-    /// them once all were alone.
+    /// them where none hangs yet.
     pub(super) fn rejoin_changed(&mut self, residual: Residual<'_>, written: &[u32])
         ensures { self.new ≡ self.old }
     {
@@ -23,10 +23,10 @@ impl Tree {
     fn rejoin_all(&mut self, residual: Residual<'_>)
         ensures { self.new ≡ self.old }
     {
+        self.forest.grow();
         for v in 0..residual.potentials.len() {
             self.rejoin(residual, v as u32);
         }
-        self.forest.grow();
     }
 
     /// Has the nodes beside noted arcs hang so.
