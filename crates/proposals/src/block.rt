@@ -1,6 +1,6 @@
 //! As many pushes along tight paths as there are after a search.
 
-ghost use Rattle.std.specs.Prelude.{◌≡◌, ◌<◌, ◌≤◌, ◌^◌, ℕ, IfSome, length};
+ghost use Rattle.std.specs.Prelude.{◌≡◌, ◌<◌, IfSome, length};
 
 use crate::look::Incoming;
 use crate::records::Records;

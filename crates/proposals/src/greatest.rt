@@ -1,6 +1,6 @@
 //! A greatest flow from one that stands, which may leave something at any node.
 
-ghost use Rattle.std.specs.Prelude.{◌≡◌, ◌<◌, ◌^◌, ℕ};
+ghost use Rattle.std.specs.Prelude.{◌≡◌, ◌<◌};
 
 use crate::search::Search;
 use crate::solving::{Fuel, Goals, solve_greatest, take_turns};

@@ -1,6 +1,6 @@
 //! What stays out of balance goes home.
 
-ghost use Rattle.std.specs.Prelude.{◌≡◌, ◌<◌, ◌^◌, ℕ, length};
+ghost use Rattle.std.specs.Prelude.{◌≡◌, ◌<◌, length};
 ghost use Rattle.relaxation.specs.Limits.{IsWithin, rest_limit};
 
 use crate::search::Search;

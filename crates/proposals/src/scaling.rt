@@ -1,6 +1,6 @@
 //! Capacity scaling: searches that first use only residual arcs of much room, then in stages those of less.
 
-ghost use Rattle.std.specs.Prelude.{◌≡◌, ◌<◌, ◌^◌, ℕ, length};
+ghost use Rattle.std.specs.Prelude.{◌≡◌, ◌<◌, ◌^◌};
 
 use crate::search::Search;
 use crate::solving::{Fuel, Goals, MOST_PAIRS, take_turns};

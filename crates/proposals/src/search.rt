@@ -266,7 +266,7 @@ impl Search {
         }
         let u = self.frontier.settle_nearest(FAR)?;
         let potential = seen::<AHEAD>(proposal.potential(u));
-        self.last = self.records.reach(u).saturating_sub(potential);
+        self.last = self.records.reach(u).wrapping_sub(potential); // far within the range
         self.count::<AHEAD>(proposal, u);
         self.frontier.take()
     }

@@ -1,6 +1,6 @@
 //! Potentials to begin with, where the best flow is near to none.
 
-ghost use Rattle.std.specs.Prelude.{◌≡◌, ◌<◌, ◌^◌, ℕ};
+ghost use Rattle.std.specs.Prelude.{◌≡◌, ◌<◌, ◌^◌};
 
 use crate::greatest::level_potentials;
 use crate::records::Records;

@@ -1,6 +1,6 @@
 //! A step at all nodes in excess at once.
 
-ghost use Rattle.std.specs.Prelude.{◌≡◌, ◌<◌, ◌^◌, ℕ, length};
+ghost use Rattle.std.specs.Prelude.{◌≡◌, ◌<◌, ◌^◌};
 
 use crate::grow::{lower_inside, survey_set};
 use crate::proposal::Proposal;

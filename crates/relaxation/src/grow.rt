@@ -1,7 +1,6 @@
 //! A step at a set of nodes.
 
-ghost use Rattle.std.specs.Prelude.{◌≡◌, ◌<◌, ◌^◌, ℕ, IfSome, length};
-ghost use Rattle.containers.specs.Nodes.{AreNodes};
+ghost use Rattle.std.specs.Prelude.{◌≡◌, ◌<◌, ◌^◌, IfSome};
 ghost use Rattle.relaxation.specs.Grow.{MetIn};
 
 use crate::candidates::{Candidate, Candidates};

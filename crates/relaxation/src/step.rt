@@ -1,6 +1,6 @@
 //! A step at a node out of balance.
 
-ghost use Rattle.std.specs.Prelude.{◌≡◌, ◌<◌, ◌^◌, ℕ};
+ghost use Rattle.std.specs.Prelude.{◌≡◌, ◌<◌, ◌^◌};
 ghost use Rattle.relaxation.specs.Limits.{IsWithin, potential_limit};
 
 use crate::candidates::{CLOSED, Candidate, Candidates};

@@ -1,6 +1,6 @@
 //! Pushes along shortest paths that a search from both sides at once finds, for few nodes out of balance.
 
-ghost use Rattle.std.specs.Prelude.{◌≡◌, ◌<◌, ◌^◌, ℕ, IfOk, IfSome, IsTrue, length};
+ghost use Rattle.std.specs.Prelude.{◌≡◌, ◌<◌, ◌^◌, IfSome, IsTrue, length};
 
 use crate::front::{Front, Meeting};
 use crate::length::FAR;
