@@ -148,7 +148,7 @@ fn are_traced_at(on: Labelled<'_>, nodes: &Touched) -> bool
 }
 
 /// Whether each of these nodes is one of the others.
-fn are_among(nodes: &Touched, others: &Touched) -> bool
+pub(crate) fn are_among(nodes: &Touched, others: &Touched) -> bool
     ensures { IsTrue result → (v : ℕ) → in_set nodes.now v ≡ true → in_set others.now v ≡ true }
 {
     for node in nodes.places() {

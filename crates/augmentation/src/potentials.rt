@@ -6,7 +6,7 @@ ghost use Rattle.residual_graph.specs.Residual.{IsPseudoflow};
 ghost use Rattle.augmentation.specs.Held.{AreTestedIn, IsHeldIn};
 ghost use Rattle.tracked.specs.Tracked.{IsWritten};
 
-use crate::held::{holds, holds_whole};
+use crate::held::{are_among, holds, holds_whole};
 use residual_ends::ResidualEnds;
 use residual_graph::Graph;
 use shortest_paths::{Residual, Tree};
@@ -54,8 +54,12 @@ fn mend(
     if !tree.mend(residual, flow.places()) {
         return false;
     }
-    // Where many nodes were hung anew, a pass over all in turn is quicker than a walk at each.
-    if tree.is_lost() || tree.rehung().places().len() > tree.labels().len() / MOST_REHUNG {
+    // Where many nodes were hung anew, a pass over all in turn is quicker than a walk at each. Where the whole tree was mended,
+    // labels changed at other nodes, too.
+    if tree.is_lost()
+        || tree.rehung().places().len() > tree.labels().len() / MOST_REHUNG
+        || !are_among(tree.relabelled(), tree.rehung())
+    {
         return holds_whole(graph, flow.entries(), tree);
     }
     holds(graph, flow, ends, tree)

@@ -49,8 +49,7 @@ impl Tree {
         for v in 1..residual.potentials.len() {
             let label = self.potential(residual, v);
             if label != self.labels.get(v) {
-                let predecessor = self.predecessors.get(v);
-                self.put(v, label, predecessor);
+                self.labels.set(v, label);
             }
         }
     }
