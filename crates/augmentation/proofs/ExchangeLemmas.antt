@@ -1,18 +1,17 @@
 -- A flow that is changed arc by arc, with the excess at the ends of each arc.
 use Rattle.std.proofs.Common.{◌≡◌, ◌≢◌, ℕ, ◌+◌, ◌<◌, ◌≤◌, ℤ, pos, negsuc, neg_ℤ, ◌-ℤ◌, ◌+ℤ◌, List, Bool, true, false, length, refl, sym, ap, subst, ◌∙◌, inl, inr, arith, cond, eqb}
-use Rattle.std.specs.Prelude.{Any, slice_set}
+use Rattle.std.specs.Prelude.{◌⊎◌, ◌<ℤ◌, ◌≤ℤ◌, [], ◌∷◌, ◌++◌, Any, slice_index_or, slice_set, take}
 use Rattle.std.specs.List.{AllPairs}
 use Rattle.std.proofs.lemmas.Int.{ints}
 use Rattle.std.proofs.lemmas.Bool.{cases_eq}
-use Rattle.std.proofs.lemmas.List.{get_or_default, get_or-set_same, get_or-set_other, length-set}
+use Rattle.std.proofs.lemmas.List.{get_or_default, get_or-set_same, get_or-set_other, length-set, take_more, take_more_set}
 use Rattle.std.proofs.lemmas.List.Sums.{sum_by-set}
 use Rattle.dimacs_text.specs.declared.problem.ArcRow.{ArcRow}
 use Rattle.residual_graph.specs.Residual.{IsPseudoflow, number_at, row_at}
-use Rattle.augmentation.specs.Changes.{AreNearer, IsExcessAfter, IsNearer, Rises}
+use Rattle.augmentation.specs.Changes.{AreNearer, IsExcessAfter, IsNearer, Rises, RisesAt}
 use Rattle.tracked.specs.Marks.{in_set}
-use Rattle.residual_graph.specs.Graph.{GraphView}
-use Rattle.augmentation.specs.Exchange.{AreChanged, IsTrialFor, IsJournalFor, IsLed, RisesBetween}
-use Rattle.augmentation.specs.declared.trial.Trial.{Trial}
+use Rattle.augmentation.specs.Exchange.{AreChanged, IsLed, RisesBetween, flow_before}
+use Rattle.proposals.specs.declared.wanted.FlowChange.{FlowChange}
 use Rattle.tracked.specs.Journal.{IsJournal, IsSince}
 use Rattle.augmentation.specs.Push.{AreSmall, IsTransfer, only_at, left, part_above_0}
 use Rattle.tracked.specs.declared.journal.Journal.{Journal}
@@ -62,11 +61,33 @@ after-more rows x e y f z g one two = λ v. omega (arith, ints, one v, two v)
 pub after-set : (rows : List ArcRow) (x e f : List ℤ) (k : ℕ) (z : ℤ) → k < length rows → length x ≡ length rows → IsTransfer (row_at rows k).tail (row_at rows k).head (z -ℤ number_at x k) e f → IsExcessAfter rows x e (slice_set x k z) f
 after-set rows x e f k z lt sized transfer = λ v. omega (arith, ints, transfer.by_node v, flow_out-set rows x k z v lt sized, flow_in-set rows x k z v lt sized, only_at-sub (row_at rows k).tail v z (number_at x k), only_at-sub (row_at rows k).head v z (number_at x k))
 
--- where each change that the journal notes leads to a node of higher rank, all changes do
-pub rises_noted : (rows : List ArcRow) (j : Journal) (x y : List ℤ) (ranks : List ℕ) → IsSince j x y → ((k : ℕ) → k < length rows → in_set j.written k ≡ true → RisesBetween (row_at rows k) (number_at j.before.items k) (number_at y k) ranks) → Rises rows x y ranks
-rises_noted rows j x y ranks since noted = λ k lt. elim (noted_or_not j.written k) [
-  | inl here ↦ (let at = subst (λ (z : ℤ). RisesBetween (row_at rows k) z (number_at y k) ranks) (since.before k here) (noted k lt here) in record { more = at.more; less = at.less })
-  | inr free ↦ (let same : number_at y k ≡ number_at x k = since.elsewhere k free (pos 0) in record { more = λ less. absurd (omega (arith, ints, less, same)); less = λ less. absurd (omega (arith, ints, less, same)) })
+-- ---- changes that lead to nodes of higher rank
+
+below_or_not : (z : ℤ) → (z <ℤ pos 0) ⊎ (pos 0 ≤ℤ z)
+below_or_not (pos n) = inr (omega (arith, ints))
+below_or_not (negsuc n) = inl (omega (arith, ints))
+
+rises-same : (rows : List ArcRow) (x : List ℤ) (ranks : List ℕ) → Rises rows x x ranks
+rises-same rows x ranks = λ k lt. record { more = λ less. absurd (omega (arith, ints, less)); less = λ less. absurd (omega (arith, ints, less)) }
+
+-- what rises over two steps rises in one of them
+rises-more : (rows : List ArcRow) (x y z : List ℤ) (ranks : List ℕ) → Rises rows x y ranks → Rises rows y z ranks → Rises rows x z ranks
+rises-more rows x y z ranks one two = λ k lt. record {
+  more = λ rises. elim (below_or_not (number_at x k -ℤ number_at y k)) [
+    | inl first ↦ (one k lt).more (omega (arith, ints, first))
+    | inr none ↦ (two k lt).more (omega (arith, ints, none, rises))
+  ];
+  less = λ falls. elim (below_or_not (number_at y k -ℤ number_at x k)) [
+    | inl first ↦ (one k lt).less (omega (arith, ints, first))
+    | inr none ↦ (two k lt).less (omega (arith, ints, none, falls))
+  ];
+}
+
+-- arc k carries another flow
+pub rises-set : (rows : List ArcRow) (x : List ℤ) (k : ℕ) (z : ℤ) (ranks : List ℕ) → k < length x → RisesBetween (row_at rows k) (number_at x k) z ranks → Rises rows x (slice_set x k z) ranks
+rises-set rows x k z ranks k_in at = λ j lt. elim (cases_eq j k) [
+  | inl same ↦ subst (RisesAt rows x (slice_set x k z) ranks) (sym same) (let here = subst (λ (y : ℤ). RisesBetween (row_at rows k) (number_at x k) y ranks) (sym (get_or-set_same x k z (pos 0) k_in)) at in record { more = here.more; less = here.less })
+  | inr other ↦ (let kept = get_or-set_other x k j z (pos 0) other in record { more = λ less. absurd (omega (arith, ints, less, kept)); less = λ less. absurd (omega (arith, ints, less, kept)) })
 ]
 
 -- what comes nearer to 0 stays within the limits
@@ -95,33 +116,30 @@ led_on one two = record {
   since = λ ws is. two.since ws (one.since ws is);
 }
 
--- a journal has room as long as it notes the same table
-pub led_for : {i j : Journal} → {xs ys : List ℤ} → IsJournalFor (length xs) i → IsLed i j xs ys → IsJournalFor (length ys) j
-led_for is led = record { journal = led.journal; room = omega (arith, is.room, led.room, led.same_length) }
-
 -- ---- changes in turn
 
-pub changed_none : (g : GraphView) (d : Trial) (x e : List ℤ) → IsPseudoflow (length e) g.rows x → IsTrialFor d x e → AreChanged g d d x e x e true
-changed_none g d x e flow room = record {
-  flow = flow;
-  flow_led = led_same d.flow x room.flow.journal;
-  excess_led = led_same d.excess e room.excess.journal;
-  order = refl;
-  excess = λ _. after-same g.rows x e;
+pub changed-same : (rows : List ArcRow) (ranks : List ℕ) (x e : List ℤ) → IsPseudoflow (length e) rows x → AreChanged rows ranks x e x e
+changed-same rows ranks x e flow = record { flow = flow; excess = after-same rows x e; rises = rises-same rows x ranks }
+
+pub changed-more : (rows : List ArcRow) (ranks : List ℕ) (x e y f z g : List ℤ) → length f ≡ length e → AreChanged rows ranks x e y f → AreChanged rows ranks y f z g → AreChanged rows ranks x e z g
+changed-more rows ranks x e y f z g sized first rest = record {
+  flow = subst (λ (n : ℕ). IsPseudoflow n rows z) sized rest.flow;
+  excess = after-more rows x e y f z g first.excess rest.excess;
+  rises = rises-more rows x y z ranks first.rises rest.rises;
 }
 
-pub changed_on : {g : GraphView} {d i j : Trial} {x e y f z h : List ℤ} {in_range : Bool} → AreChanged g d i x e y f true → AreChanged g i j y f z h in_range → AreChanged g d j x e z h in_range
-changed_on {g} {d} {i} {j} {x} {e} {y} {f} {z} {h} {in_range} first rest = record {
-  flow = rest.flow;
-  flow_led = led_on first.flow_led rest.flow_led;
-  excess_led = led_on first.excess_led rest.excess_led;
-  order = rest.order ∙ first.order;
-  excess = λ yes. after-more g.rows x e y f z h (first.excess refl) (rest.excess yes);
-}
+-- the last change is taken back first
+flow_before-last : (changes : List FlowChange) (c : FlowChange) (y : List ℤ) → flow_before (changes ++ c ∷ []) y ≡ flow_before changes (slice_set y c.arc c.flow)
+flow_before-last [] c y = refl
+flow_before-last (d ∷ changes) c y = ap (λ (x : List ℤ). slice_set x d.arc d.flow) (flow_before-last changes c y)
 
--- the trial still has room
-pub trial_on : {g : GraphView} {d i : Trial} {x e y f : List ℤ} {in_range : Bool} → IsTrialFor d x e → AreChanged g d i x e y f in_range → IsTrialFor i y f
-trial_on room changed = record { flow = led_for room.flow changed.flow_led; excess = led_for room.excess changed.excess_led }
+-- with one change less
+pub flow_before-less : (changes : List FlowChange) (j : ℕ) (c : FlowChange) (y : List ℤ) → j < length changes → flow_before (take (j + 1) changes) y ≡ flow_before (take j changes) (slice_set y (slice_index_or changes j c).arc (slice_index_or changes j c).flow)
+flow_before-less changes j c y lt = ap (λ (cs : List FlowChange). flow_before cs y) (take_more changes j c lt) ∙ flow_before-last (take j changes) (slice_index_or changes j c) y
+
+-- with one change more, which is kept in its place
+pub flow_before-more : (changes : List FlowChange) (j : ℕ) (c : FlowChange) (y : List ℤ) → j < length changes → flow_before (take (j + 1) (slice_set changes j c)) y ≡ flow_before (take j changes) (slice_set y c.arc c.flow)
+flow_before-more changes j c y lt = ap (λ (cs : List FlowChange). flow_before cs y) (take_more_set changes j c lt) ∙ flow_before-last (take j changes) c y
 
 -- ---- what the nodes that a journal notes gave
 

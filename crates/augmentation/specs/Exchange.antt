@@ -1,5 +1,5 @@
 -- A flow that is changed to a wanted one at once.
-use Rattle.std.specs.Prelude.{◌≡◌, ℕ, ◌+◌, ◌<◌, ◌≤◌, ℤ, ◌<ℤ◌, Bool, IsTrue, List, length}
+use Rattle.std.specs.Prelude.{◌≡◌, ℕ, ◌+◌, ◌<◌, ◌≤◌, ℤ, ◌<ℤ◌, List, [], ◌∷◌, length, slice_set}
 use Rattle.dimacs_text.specs.declared.problem.ArcRow.{ArcRow}
 use Rattle.residual_graph.specs.Graph.{GraphView}
 use Rattle.residual_graph.specs.Residual.{IsPseudoflow}
@@ -7,17 +7,24 @@ use Rattle.augmentation.specs.Changes.{AreNearer, IsAcyclicChange, IsExcessAfter
 use Rattle.augmentation.specs.Push.{IsTransfer, left, part_above_0}
 use Rattle.tracked.specs.Journal.{IsJournal, IsSince}
 use Rattle.tracked.specs.declared.journal.Journal.{Journal}
+use Rattle.augmentation.specs.declared.attempt.Attempt.{Attempt}
 use Rattle.augmentation.specs.declared.trial.Trial.{Trial}
+use Rattle.proposals.specs.declared.wanted.FlowChange.{FlowChange}
 
 -- a journal has room for what stood in a table of so many entries
 pub record IsJournalFor (size : ℕ) (j : Journal) : Type 0 where
   pub journal : IsJournal j
   pub room : size ≤ length j.before.items
 
--- a trial has room for what stands in a flow and in its excess
-pub record IsTrialFor (d : Trial) (x e : List ℤ) : Type 0 where
-  pub flow : IsJournalFor (length x) d.flow
-  pub excess : IsJournalFor (length e) d.excess
+-- a trial has room for what stands in the excess of so many nodes, and a rank for each
+pub record IsTrialFor (nodes : ℕ) (d : Trial) : Type 0 where
+  pub excess : IsJournalFor nodes d.excess
+  pub order : d.order ≡ nodes
+
+-- the flow before changes that led to flow y: the flow of each, which stood at its arc, is written back, the last first
+abbrev pub flow_before : List FlowChange → List ℤ → List ℤ
+flow_before [] y = y
+flow_before (c ∷ changes) y = slice_set (flow_before changes y) c.arc c.flow
 
 -- the table xs became ys, and journal i became j: each place was noted before it was written
 pub record IsLed (i j : Journal) (xs ys : List ℤ) : Type 0 where
@@ -31,17 +38,11 @@ pub record RisesBetween (a : ArcRow) (x y : ℤ) (ranks : List ℕ) : Type 0 whe
   pub more : x <ℤ y → rank_of ranks a.tail < rank_of ranks a.head
   pub less : y <ℤ x → rank_of ranks a.head < rank_of ranks a.tail
 
--- each change of a flow since the journal began leads to a node of higher rank
-abbrev pub RisesSince : List ArcRow → Journal → List ℤ → List ℕ → Type 0
-RisesSince rows j y ranks = (x : List ℤ) → IsSince j x y → Rises rows x y ranks
-
--- flow x with excess e became flow y with excess f, within the bounds, and trial d became d': each place was noted before it was written; the excess is the one that the flow leaves, if that was in range
-pub record AreChanged (g : GraphView) (d d' : Trial) (x e y f : List ℤ) (in_range : Bool) : Type 0 where
-  pub flow : IsPseudoflow (length f) g.rows y
-  pub flow_led : IsLed d.flow d'.flow x y
-  pub excess_led : IsLed d.excess d'.excess e f
-  pub order : d'.order ≡ d.order
-  pub excess : IsTrue in_range → IsExcessAfter g.rows x e y f
+-- flow x with excess e became flow y within the bounds, which leaves the excess f, and each change leads to a node of higher rank
+pub record AreChanged (rows : List ArcRow) (ranks : List ℕ) (x e y f : List ℤ) : Type 0 where
+  pub flow : IsPseudoflow (length e) rows y
+  pub excess : IsExcessAfter rows x e y f
+  pub rises : Rises rows x y ranks
 
 -- m is moved from the excess of an arc's tail to that of its head
 abbrev pub IsMovedAlong : ArcRow → ℤ → List ℤ → List ℤ → Type 0
@@ -69,8 +70,8 @@ pub record IsExchange (nodes : ℕ) (rows : List ArcRow) (n : ℕ) (x e y f : Li
 abbrev pub AreExchanged : GraphView → List ℤ → List ℤ → List ℤ → List ℤ → ℕ → Type 0
 AreExchanged g x e y f n = IsExchange (length e) g.rows n x e y f
 
--- so it is, and a trial remembers what stood there
-pub record AreLed (g : GraphView) (d : Trial) (x e y f : List ℤ) (n : ℕ) : Type 0 where
+-- so it is, and an attempt remembers what stood there
+pub record AreLed (g : GraphView) (a : Attempt) (x e y f : List ℤ) (n : ℕ) : Type 0 where
   pub exchange : AreExchanged g x e y f n
-  pub flow_since : IsSince d.flow x y
-  pub excess_since : IsSince d.excess e f
+  pub flow_before : flow_before a.wanted.changes.items y ≡ x
+  pub excess_since : IsSince a.trial.excess e f

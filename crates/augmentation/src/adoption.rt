@@ -1,14 +1,13 @@
 //! Proposals that are taken where they are certified, and pushes from there.
 
-ghost use Rattle.std.specs.Prelude.{◌≡◌, ℕ, ℤ, ◌<◌, List, length, IfNone, IfSome, true};
+ghost use Rattle.std.specs.Prelude.{◌≡◌, ℤ, List, length, IfNone, IfSome};
 ghost use Rattle.residual_graph.specs.Residual.{IsPseudoflow};
 ghost use Rattle.tracked.specs.Journal.{IsSince};
-ghost use Rattle.tracked.specs.Marks.{in_set};
 ghost use Rattle.tracked.specs.Tracked.{IsWritten};
 ghost use Rattle.augmentation.specs.Adoption.{IsCertifiedBy, IsRaisedBy, IsRaisedOrAsBefore};
 ghost use Rattle.augmentation.specs.Attempt.{IsAttemptFor};
 ghost use Rattle.augmentation.specs.Cut.{IsParted};
-ghost use Rattle.augmentation.specs.Exchange.{AreLed, IsBefore, IsJournalFor};
+ghost use Rattle.augmentation.specs.Exchange.{AreLed, IsBefore, IsJournalFor, flow_before};
 ghost use Rattle.augmentation.specs.Held.{IsHeldIn};
 ghost use Rattle.augmentation.specs.Near.{AreInStep};
 ghost use Rattle.augmentation.specs.Pseudoflow.{IsReady};
@@ -16,27 +15,13 @@ ghost use Rattle.augmentation.specs.Push.{AreSmall};
 
 use crate::attempt::Attempt;
 use crate::excess::{Excess, note_unbalanced};
-use crate::exchange::exchange;
+use crate::exchange::{exchange, write_back};
 use crate::near::{Apart, note_apart, raise, write_labels, write_raised};
 use crate::potentials::is_renewed;
 use crate::rounds::finish;
 use crate::scratch::Scratch;
-use crate::trial::Trial;
 use residual_graph::Graph;
-use tracked::{Journal, Touched, Tracked};
-
-/// Notes the places in a journal.
-#[inline(never)] // a name of its own in the program: `bench/count` counts its calls
-fn note_written(touched: &mut Touched, journal: &Journal)
-    requires room { (k : ℕ) → in_set journal.now.written k ≡ true → k < length touched.old }
-    ensures same_size { length touched.new ≡ length touched.old }
-    ensures still { (k : ℕ) → in_set touched.old k ≡ true → in_set touched.new k ≡ true }
-    ensures noted { (k : ℕ) → in_set journal.now.written k ≡ true → in_set touched.new k ≡ true }
-{
-    for place in journal.written.places() {
-        touched.note(*place as usize);
-    }
-}
+use tracked::Tracked;
 
 /// Makes the flow the proposed one, with the excess that it leaves, and counts the units that this moves: nothing where the
 /// changes do not serve, and then both are as they were.
@@ -52,47 +37,35 @@ pub(crate) fn lead(
     ensures written { IsWritten flow.old flow.new }
     ensures same_flow { IfNone result (flow.new.entries ≡ flow.old.entries) }
     ensures same_excess { IfNone result (excess.new ≡ excess.old) }
-    ensures led { IfSome result (AreLed graph.now attempt.new.trial
+    ensures led { IfSome result (AreLed graph.now attempt.new
         flow.old.entries excess.old flow.new.entries excess.new) }
     ensures attempt { IsAttemptFor (length excess.old) attempt.new }
 {
-    let trial = &mut attempt.trial;
-    if trial.flow.before.len() < flow.entries.len() {
-        return None;
-    }
     let changes = &mut attempt.wanted.changes;
-    let Some(units) = exchange(
-        graph,
-        &mut flow.entries,
-        &mut excess.entries,
-        changes,
-        trial,
-    ) else {
-        trial.flow.bring_back(&mut flow.entries);
+    let trial = &mut attempt.trial;
+    let Some(units) = exchange(graph, flow, &mut excess.entries, changes, trial) else {
+        write_back(flow, changes);
         trial.excess.bring_back(&mut excess.entries);
         return None;
     };
     // Each node came nearer to balance, so those out of balance are listed still.
-    note_written(&mut flow.touched, &trial.flow);
-    attempt.follow(graph, &flow.entries);
+    attempt.follow(graph, flow.entries());
     Some(units)
 }
 
-/// Brings flow and excess back.
-pub(crate) fn take_back(flow: &mut Tracked<i64>, excess: &mut Excess, trial: &Trial)
-    requires flow_journal { IsJournalFor (length flow.old.entries) trial.now.flow }
-    requires flow_since { (xs : List ℤ) × IsSince trial.now.flow xs flow.old.entries }
-    requires excess_journal { IsJournalFor (length excess.old) trial.now.excess }
-    requires excess_since { (es : List ℤ) × IsSince trial.now.excess es excess.old }
+/// Brings flow and excess back from what an attempt led them to.
+pub(crate) fn take_back(flow: &mut Tracked<i64>, excess: &mut Excess, attempt: &Attempt)
+    requires excess { IsJournalFor (length excess.old) attempt.now.trial.excess }
+    requires since { (es : List ℤ) × IsSince attempt.now.trial.excess es excess.old }
     ensures written { IsWritten flow.old flow.new }
-    ensures flow { IsBefore trial.now.flow flow.old.entries flow.new.entries }
-    ensures excess { IsBefore trial.now.excess excess.old excess.new }
+    ensures flow { flow.new.entries ≡ flow_before attempt.now.wanted.changes.items flow.old.entries }
+    ensures excess { IsBefore attempt.now.trial.excess excess.old excess.new }
 {
-    trial.flow.bring_back(&mut flow.entries);
-    note_written(&mut flow.touched, &trial.flow);
-    trial.excess.bring_back(&mut excess.entries);
+    write_back(flow, &attempt.wanted.changes);
+    let journal = &attempt.trial.excess;
+    journal.bring_back(&mut excess.entries);
     note_unbalanced(
-        trial.excess.written.places(),
+        journal.written.places(),
         &excess.entries,
         &mut excess.unbalanced,
     );
@@ -100,6 +73,7 @@ pub(crate) fn take_back(flow: &mut Tracked<i64>, excess: &mut Excess, trial: &Tr
 
 /// Takes what the proposal at hand leads to where the tree of labels certifies that, and counts the pushes that lead
 /// there; the potentials become the greatest that certify the flow. Else all is as it was.
+#[inline(never)] // a name of its own in the program: `bench/count` counts its calls
 pub fn adopt(
     graph: &Graph,
     flow: &mut Tracked<i64>,
@@ -126,7 +100,7 @@ pub fn adopt(
     let proposals = &attempt.proposals;
     tree.lower(proposals.greatest());
     if !is_renewed(graph, flow, proposals.potentials(), proposals.ends(), tree) {
-        take_back(flow, excess, &attempt.trial);
+        take_back(flow, excess, attempt);
         return None;
     }
     attempt.proposals.adopted();

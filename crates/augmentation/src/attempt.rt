@@ -36,7 +36,7 @@ impl Attempt {
         let arcs = arcs.min(MOST_ARCS);
         let proposals = Proposals::new(alloc, entries, arcs);
         let wanted = Wanted::new(alloc, arcs);
-        let trial = Trial::new(alloc, entries, arcs);
+        let trial = Trial::new(alloc, entries);
         let (proposals, (wanted, trial)) = both(proposals, both(wanted, trial))?;
         Ok(Attempt {
             proposals,

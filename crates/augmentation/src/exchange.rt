@@ -1,18 +1,19 @@
 //! A flow that becomes the wanted one at once, with the excess at the ends of each changed arc, and how many units that
-//! moves.
+//! moves. Each wanted flow changes places with the one that stood there, so the list of changes leads back.
 
-ghost use Rattle.std.specs.Prelude.{◌≡◌, ℕ, ◌<◌, ◌≤◌, IfSome, IsTrue, length, slice_set, true};
+ghost use Rattle.std.specs.Prelude.{◌≡◌, ℕ, ◌<◌, ◌≤◌, IfSome, IsTrue, false, length, slice_set, true};
 ghost use Rattle.residual_graph.specs.Residual.{IsPseudoflow, IsRow};
-ghost use Rattle.augmentation.specs.Exchange.{AreChanged, AreExchanged, HasGiven, HaveGiven, IsTrialFor, IsJournalFor, IsLed, IsMovedAlong, RisesBetween, RisesSince};
-ghost use Rattle.tracked.specs.Journal.{IsJournal, IsSince};
+ghost use Rattle.augmentation.specs.Exchange.{AreChanged, AreExchanged, HasGiven, HaveGiven, IsJournalFor, IsLed, IsMovedAlong, IsTrialFor, RisesBetween, flow_before};
+ghost use Rattle.tracked.specs.Journal.{IsSince};
 ghost use Rattle.tracked.specs.Marks.{in_set};
+ghost use Rattle.tracked.specs.Tracked.{IsWritten};
 ghost use Rattle.augmentation.specs.Push.{AreSmall};
 
 use crate::trial::Trial;
 use dimacs_text::ArcRow;
 use proposals::FlowChange;
 use residual_graph::Graph;
-use tracked::Journal;
+use tracked::{Journal, Tracked};
 
 /// Writes an entry of a table, and has a journal note before what stood there.
 fn write(table: &mut [i64], journal: &mut Journal, place: usize, value: i64)
@@ -45,55 +46,6 @@ fn move_excess(excess: &mut [i64], journal: &mut Journal, row: &ArcRow, amount: 
     true
 }
 
-/// Gives an arc the flow that is wanted of it, or the nearest within its bounds, and moves the excess at its ends; says
-/// whether that is in range.
-fn change_arc(
-    graph: &Graph,
-    flow: &mut [i64],
-    excess: &mut [i64],
-    trial: &mut Trial,
-    change: &FlowChange,
-) -> bool
-    requires flow { IsPseudoflow (length excess.old) graph.now.rows flow.old }
-    requires trial { IsTrialFor trial.old flow.old excess.old }
-    ensures { AreChanged graph.now trial.old trial.new
-        flow.old excess.old flow.new excess.new result }
-{
-    let k = change.arc as usize;
-    if k >= flow.len() {
-        return true;
-    }
-    let row = graph.row(k);
-    let goal = change.flow.max(row.low).min(row.cap);
-    if goal == flow[k] {
-        return true;
-    }
-    let amount = goal - flow[k];
-    write(flow, &mut trial.flow, k, goal);
-    move_excess(excess, &mut trial.excess, &row, amount)
-}
-
-/// The same of all changes, in turn.
-fn change_arcs(
-    graph: &Graph,
-    flow: &mut [i64],
-    excess: &mut [i64],
-    trial: &mut Trial,
-    changes: &[FlowChange],
-) -> bool
-    requires flow { IsPseudoflow (length excess.old) graph.now.rows flow.old }
-    requires trial { IsTrialFor trial.old flow.old excess.old }
-    ensures { AreChanged graph.now trial.old trial.new
-        flow.old excess.old flow.new excess.new result }
-{
-    for change in changes {
-        if !change_arc(graph, flow, excess, trial, change) {
-            return false;
-        }
-    }
-    true
-}
-
 /// Whether an arc that is to carry more has its head at a higher rank, and one that is to carry less its tail.
 fn rises_at(row: &ArcRow, before: i64, flow: i64, ranks: &[u32]) -> bool
     requires row { IsRow (length ranks.now) row.now }
@@ -108,23 +60,92 @@ fn rises_at(row: &ArcRow, before: i64, flow: i64, ranks: &[u32]) -> bool
     }
 }
 
-/// Whether each change that the journal notes leads to a node of higher rank: then none go round in circles.
-fn rise(graph: &Graph, flow: &[i64], journal: &Journal, ranks: &[u32]) -> bool
-    requires flow { IsPseudoflow (length ranks.now) graph.now.rows flow.now }
-    requires room { length flow.now ≤ length journal.now.before.items }
-    ensures { IsTrue result → RisesSince graph.now.rows journal.now flow.now ranks.now }
+/// Gives an arc the flow that is wanted of it, or the nearest within its bounds, and moves the excess at its ends; the change
+/// then has the flow that stood there. Says whether it could: not where the change leads to no node of higher rank, or where
+/// the sums are out of range, and then the flow is as before.
+fn change_arc(
+    graph: &Graph,
+    ranks: &[u32],
+    flow: &mut Tracked<i64>,
+    excess: &mut [i64],
+    journal: &mut Journal,
+    change: &mut FlowChange,
+) -> bool
+    requires flow { IsPseudoflow (length excess.old) graph.now.rows flow.old.entries }
+    requires ranks { length ranks.now ≡ length excess.old }
+    requires journal { IsJournalFor (length excess.old) journal.old }
+    ensures written { IsWritten flow.old flow.new }
+    ensures led { IsLed journal.old journal.new excess.old excess.new }
+    ensures same { result ≡ false → flow.new.entries ≡ flow.old.entries }
+    ensures before { IsTrue result → slice_set flow.new.entries change.new.arc change.new.flow ≡ flow.old.entries }
+    ensures changed { IsTrue result → AreChanged graph.now.rows ranks.now
+        flow.old.entries excess.old flow.new.entries excess.new }
 {
-    for place in journal.written.places() {
-        let k = *place as usize;
-        if k >= flow.len() {
-            continue;
-        }
-        let row = graph.row(k);
-        if !rises_at(&row, journal.before[k], flow[k], ranks) {
+    let k = change.arc as usize;
+    if k >= flow.entries().len() {
+        return true;
+    }
+    let row = graph.row(k);
+    let before = flow.get(k);
+    let goal = change.flow.max(row.low).min(row.cap);
+    let amount = goal - before;
+    change.flow = goal;
+    if amount == 0 {
+        return true;
+    }
+    if !rises_at(&row, before, goal, ranks) {
+        return false;
+    }
+    if !move_excess(excess, journal, &row, amount) {
+        return false;
+    }
+    flow.exchange(k, &mut change.flow);
+    true
+}
+
+/// Makes changes in turn, and says whether all could be made: those that were are left in the list.
+fn change_arcs(
+    graph: &Graph,
+    ranks: &[u32],
+    flow: &mut Tracked<i64>,
+    excess: &mut [i64],
+    journal: &mut Journal,
+    changes: &mut Vec<FlowChange>,
+) -> bool
+    requires flow { IsPseudoflow (length excess.old) graph.now.rows flow.old.entries }
+    requires ranks { length ranks.now ≡ length excess.old }
+    requires journal { IsJournalFor (length excess.old) journal.old }
+    ensures written { IsWritten flow.old flow.new }
+    ensures led { IsLed journal.old journal.new excess.old excess.new }
+    ensures before { flow_before changes.new.items flow.new.entries ≡ flow.old.entries }
+    ensures changed { IsTrue result → AreChanged graph.now.rows ranks.now
+        flow.old.entries excess.old flow.new.entries excess.new }
+{
+    for j in 0..changes.len() {
+        let mut change = changes[j];
+        let is_made = change_arc(graph, ranks, flow, excess, journal, &mut change);
+        if !is_made {
+            changes.truncate(j);
             return false;
         }
+        changes[j] = change;
     }
     true
+}
+
+/// Brings back the flow before the changes, the last of them first.
+pub(crate) fn write_back(flow: &mut Tracked<i64>, changes: &[FlowChange])
+    ensures written { IsWritten flow.old flow.new }
+    ensures flow { flow.new.entries ≡ flow_before changes.now flow.old.entries }
+{
+    let last = changes.len();
+    for done in 0..changes.len() {
+        let change = &changes[last - 1 - done];
+        let k = change.arc as usize;
+        if k < flow.entries().len() {
+            flow.set(k, change.flow);
+        }
+    }
 }
 
 /// How much a node gave; none where its excess or deficit did not come nearer to 0.
@@ -155,35 +176,32 @@ fn units_given(journal: &Journal, excess: &[i64]) -> Option<u64>
 }
 
 /// Makes the flow the wanted one, with the excess that it leaves, where its changes go round in no circle and bring each
-/// node nearer to balance, and counts the units that this moves. Else both are to be brought back, from the journals that
-/// begin here.
+/// node nearer to balance, and counts the units that this moves. Else both are to be brought back: the flow from the changes
+/// that are left in the list, and the excess from the journal that begins here.
 pub(crate) fn exchange(
     graph: &Graph,
-    flow: &mut [i64],
+    flow: &mut Tracked<i64>,
     excess: &mut [i64],
-    changes: &mut [FlowChange],
+    changes: &mut Vec<FlowChange>,
     trial: &mut Trial,
 ) -> Option<u64>
-    requires flow { IsPseudoflow (length excess.old) graph.now.rows flow.old }
+    requires flow { IsPseudoflow (length excess.old) graph.now.rows flow.old.entries }
     requires small { AreSmall excess.old }
-    requires trial { IsTrialFor trial.old flow.old excess.old }
-    requires order { trial.old.order ≡ length excess.old }
-    ensures some { IfSome result (AreExchanged graph.now flow.old excess.old flow.new excess.new) }
-    ensures flow_journal { IsJournal trial.new.flow }
-    ensures flow_since { IsSince trial.new.flow flow.old flow.new }
-    ensures excess_journal { IsJournal trial.new.excess }
-    ensures excess_since { IsSince trial.new.excess excess.old excess.new }
-    ensures order { trial.new.order ≡ trial.old.order }
+    requires trial { IsTrialFor (length excess.old) trial.old }
+    ensures some { IfSome result (AreExchanged graph.now flow.old.entries excess.old flow.new.entries excess.new) }
+    ensures written { IsWritten flow.old flow.new }
+    ensures before { flow_before changes.new.items flow.new.entries ≡ flow.old.entries }
+    ensures trial { IsTrialFor (length excess.old) trial.new }
+    ensures since { IsSince trial.new.excess excess.old excess.new }
 {
-    trial.flow.clear();
     trial.excess.clear();
-    if !trial.order.lay_out(graph, flow, changes) {
+    if !trial.order.lay_out(graph, flow.entries(), changes) {
+        changes.clear();
         return None;
     }
-    if !change_arcs(graph, flow, excess, trial, changes) {
-        return None;
-    }
-    if !rise(graph, flow, &trial.flow, trial.order.ranks()) {
+    let ranks = trial.order.ranks();
+    let journal = &mut trial.excess;
+    if !change_arcs(graph, ranks, flow, excess, journal, changes) {
         return None;
     }
     units_given(&trial.excess, excess)

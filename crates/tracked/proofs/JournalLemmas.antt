@@ -8,7 +8,6 @@ use Rattle.residual_graph.specs.Residual.{number_at}
 use Rattle.tracked.specs.NodeLists.{IsListed}
 use Rattle.tracked.specs.Marks.{in_set}
 use Rattle.tracked.specs.Journal.{IsSince}
-use Rattle.tracked.specs.Touched.{AreNoted}
 use Rattle.tracked.specs.declared.journal.Journal.{Journal}
 use Rattle.tracked.proofs.TouchedLemmas.{noted_or_not}
 use Rattle.tracked.proofs.TrackedLemmas.{AreLeft, AreLeft-more, AreLeft-start}
@@ -19,18 +18,6 @@ since_left j xs ys places listed is = AreLeft-start places ys xs (sym is.same_le
   | inl noted ↦ inl (subst (λ (q : ℕ). Any (λ p. p ≡ q) places) (omega arith) (listed k noted))
   | inr out ↦ inr (λ d. sym (is.elsewhere k out d))
 ])
-
--- where another table notes what a journal does, it was written at noted places alone
-pub since_noted : (j : Journal) (xs ys : List ℤ) (noted noted' : List Bool) → IsSince j xs ys → length noted' ≡ length noted → ((k : ℕ) → in_set noted k ≡ true → in_set noted' k ≡ true) → ((k : ℕ) → in_set j.written k ≡ true → in_set noted' k ≡ true) → AreNoted noted xs noted' ys
-since_noted j xs ys noted noted' is sized still all = record {
-  same_size = sized;
-  same_length = is.same_length;
-  still = still;
-  elsewhere = λ k out d. elim (noted_or_not j.written k) [
-    | inl here ↦ absurd (true≢false (sym (all k here) ∙ out))
-    | inr free ↦ is.elsewhere k free d
-  ];
-}
 
 -- one more place is brought back
 pub since_back : (j : Journal) (xs ys table : List ℤ) (places : List ℕ) (i : ℕ) (value : ℤ) → All (λ p. in_set j.written p ≡ true) places → i < length places → IsSince j xs ys → AreLeft places i table xs → slice_index_or places i 0 < length table

@@ -10,12 +10,12 @@ use Rattle.augmentation.proofs.adoption.take_back.Goals as goal
 pub invariant_of-excess : goal.invariant_of-excess
 invariant_of-excess c =
     let e = c.excess.inside in
-    let j = c.args.trial.now.excess in
-    let es = c.requires.excess_since.0 in
+    let j = c.args.attempt.now.trial.excess in
+    let es = c.requires.since.0 in
     let listed = c.note_unbalanced.new.unbalanced in
-    let since : IsSince j es e.entries.items = subst (IsSince j es) (sym c.excess.view_is) c.requires.excess_since.1 in
-    let back : (with_items e.entries c.bring_back-2.new.table).items ≡ es =
-    with_items_is e.entries c.bring_back-2.new.table (c.bring_back-2.auto.table ∙ c.deref_mut-2.ensures.len) ∙ c.bring_back-2.ensures es (subst (IsSince j es) (sym c.deref_mut-2.ensures.value) since) in
-    let noted : All (IsBalancedOrListed listed es) c.places.result.now = subst (λ (f : List ℤ). All (IsBalancedOrListed listed f) c.places.result.now) (c.deref.ensures.value ∙ back) c.note_unbalanced.ensures.noted in
+    let since : IsSince j es e.entries.items = subst (IsSince j es) (sym c.excess.view_is) c.requires.since.1 in
+    let back : (with_items e.entries c.bring_back.new.table).items ≡ es =
+    with_items_is e.entries c.bring_back.new.table (c.bring_back.auto.table ∙ c.deref_mut.ensures.len) ∙ c.bring_back.ensures es (subst (IsSince j es) (sym c.deref_mut.ensures.value) since) in
+    let noted : All (IsBalancedOrListed listed es) c.places.result.now = subst (λ (f : List ℤ). All (IsBalancedOrListed listed f) c.places.result.now) (c.deref-2.ensures.value ∙ back) c.note_unbalanced.ensures.noted in
     let are : AreUnbalancedListed listed es = listed_back e.unbalanced listed j es e.entries.items c.places.result.now c.excess.invariant.0 since c.note_unbalanced.ensures.same_size c.note_unbalanced.ensures.still c.places.ensures.listed noted in
     (subst (AreUnbalancedListed listed) (sym back) are, c.excess.invariant.1 ∙ since.same_length ∙ ap length (sym back))

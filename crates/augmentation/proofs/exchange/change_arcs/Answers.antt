@@ -1,24 +1,29 @@
-use Rattle.std.proofs.Common.{◌≡◌, subst}
-use Rattle.std.specs.Prelude.{Bool}
-use Rattle.augmentation.specs.Exchange.{AreChanged}
-use Rattle.augmentation.proofs.ExchangeLemmas.{changed_none, changed_on, trial_on}
+use Rattle.std.proofs.Common.{◌∙◌, ◌<◌, arith, length, refl, ap, take}
+use Rattle.std.proofs.lemmas.List.{length-set}
+use Rattle.augmentation.specs.Exchange.{flow_before}
+use Rattle.augmentation.proofs.ExchangeLemmas.{changed-more, changed-same, flow_before-more, led_on, led_same}
+use Rattle.tracked.proofs.TrackedLemmas.{IsWritten-same, IsWritten-trans}
 use Rattle.augmentation.proofs.exchange.change_arcs.Goals as goal
-use Rattle.augmentation.proofs.exchange.change_arcs.Goals.{After-change_arc}
 
-pub loop-change-init : goal.loop-change-init
-loop-change-init c = changed_none c.args.graph.now c.args.trial.now c.args.flow.now c.args.excess.now c.requires.flow c.requires.trial
+pub loop-j-init : goal.loop-j-init
+loop-j-init c = record {
+  written = IsWritten-same c.args.flow.now;
+  led = led_same c.args.journal.now c.args.excess.now c.requires.journal.journal;
+  as_many = refl;
+  before = refl;
+  changed = changed-same c.args.graph.now.rows c.args.ranks.now c.args.flow.now.entries c.args.excess.now c.requires.flow;
+}
 
-pub change_arc-requires : goal.change_arc-requires
-change_arc-requires c = record { flow = c.loop-change.invariant.flow; trial = trial_on c.requires.trial c.loop-change.invariant }
-
--- with one change more
-more : (c : After-change_arc) (in_range : Bool) → c.change_arc.result ≡ in_range → AreChanged c.args.graph.now c.args.trial.now c.change_arc.new.trial c.args.flow.now c.args.excess.now c.change_arc.new.flow c.change_arc.new.excess in_range
-more c in_range is =
-    changed_on c.loop-change.invariant
-    (subst (AreChanged c.args.graph.now c.loop-change.trial c.change_arc.new.trial c.loop-change.flow c.loop-change.excess c.change_arc.new.flow c.change_arc.new.excess) is c.change_arc.ensures)
-
-pub returns-then-not-change_arc : goal.returns-then-not-change_arc
-returns-then-not-change_arc c = more (goal.at.returns-then-not-change_arc c).After-change_arc _ c.if-not-change_arc.true
-
-pub loop-change-preserved : goal.loop-change-preserved
-loop-change-preserved c = more (goal.at.loop-change-preserved c).After-change_arc _ c.if-not-change_arc.false
+pub loop-j-preserved : goal.loop-j-preserved
+loop-j-preserved c =
+    let l = c.loop-j in
+    let made = c.change_arc-is_made in
+    let is = l.invariant in
+    let j_in : l.j < length l.changes.items = omega (arith, c.loop-j-test.true, is.as_many) in
+    record {
+      written = IsWritten-trans c.args.flow.now l.flow made.new.flow is.written made.ensures.written;
+      led = led_on is.led made.ensures.led;
+      as_many = length-set l.changes.items l.j made.new.change ∙ is.as_many;
+      before = flow_before-more l.changes.items l.j made.new.change made.new.flow.entries j_in ∙ ap (flow_before (take l.j l.changes.items)) (made.ensures.before c.if-not-is_made.false) ∙ is.before;
+      changed = changed-more c.args.graph.now.rows c.args.ranks.now c.args.flow.now.entries c.args.excess.now l.flow.entries l.excess made.new.flow.entries made.new.excess is.led.same_length is.changed (made.ensures.changed c.if-not-is_made.false);
+    }
