@@ -8,7 +8,7 @@ pub struct FlowChange {
     pub arc: u32,
     /// The place of the next change at the same node: who goes over the changes writes it.
     pub next: u32,
-    /// The wanted flow.
+    /// The wanted flow; once the change is made, the flow that stood there.
     pub flow: i64,
 }
 
