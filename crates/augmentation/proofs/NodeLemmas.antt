@@ -1,5 +1,5 @@
 -- Tables of nodes and the sums over nodes and arcs.
-use Rattle.std.proofs.Common.{◌≡◌, ℕ, zero, suc, ◌<◌, ℤ, pos, ◌+ℤ◌, ◌≤ℤ◌, List, [], ◌∷◌, length, refl, sym, subst, inl, inr, arith}
+use Rattle.std.proofs.Common.{◌≡◌, ℕ, zero, suc, ◌<◌, ℤ, pos, ◌+ℤ◌, List, [], ◌∷◌, length, refl, sym, subst, inl, inr, arith}
 use Rattle.std.specs.Prelude.{slice_index_or}
 use Rattle.std.proofs.lemmas.Int.{ints}
 use Rattle.std.proofs.lemmas.Bool.{cases_lt}
@@ -9,7 +9,7 @@ use Rattle.network.specs.Flow.{nodes_sum, net, outflow, inflow}
 use Rattle.augmentation.specs.Push.{only_at}
 use Rattle.augmentation.specs.Nodes.{table, held}
 use Rattle.augmentation.proofs.PushLemmas.{at_other}
-use Rattle.residual_graph.proofs.NodeNumbers.{AllEndsIn, IsNodeOf, is_node_or_not}
+use Rattle.residual_graph.proofs.NodeNumbers.{AllEndsIn, IsNodeOf}
 
 pub length-table : {A : Type 0} (n : ℕ) (f : ℕ → A) → length (table n f) ≡ n
 length-table zero f = refl
@@ -29,12 +29,6 @@ held_other n f zero none = refl
 held_other n f (suc v) none = elim (cases_lt v n) [
   | inl lt ↦ absurd (none (omega arith, omega arith))
   | inr past ↦ get_or_past (table n (λ w. f (suc w))) v (pos 0) (omega (arith, length-table n (λ w. f (suc w))))
-]
-
-pub held_at_most_0 : (n : ℕ) (f : ℕ → ℤ) → ((v : ℕ) → IsNodeOf n v → f v ≤ℤ pos 0) → (v : ℕ) → held n f v ≤ℤ pos 0
-held_at_most_0 n f low v = elim (is_node_or_not n v) [
-  | inl node ↦ omega (arith, ints, low v node, held_node n f v node)
-  | inr none ↦ omega (arith, ints, held_other n f v none)
 ]
 
 -- ---- flow at what is no node

@@ -1,7 +1,7 @@
 -- Flow that is pushed along a path of arcs, from a node in excess to a node in deficit
 -- (Ahuja, Magnanti, Orlin, "Network Flows": augmenting paths; excess, deficit and pseudoflow).
 use Rattle.network.specs.Flow.{net}
-use Rattle.augmentation.specs.Limits.{excess_limit, supply_limit}
+use Rattle.augmentation.specs.Limits.{excess_limit}
 use Rattle.std.specs.Prelude.{◌≡◌, ◌≢◌, ℕ, zero, suc, ◌+◌, ◌≤◌, ℤ, pos, negsuc, neg_ℤ, ◌-ℤ◌, ◌+ℤ◌, ◌≤ℤ◌, List, [], ◌∷◌, length, slice_set, if◌then◌else◌, ◌==◌, Bool, true, false}
 use Rattle.std.specs.List.{All, AllPairs, sum_by}
 use Rattle.dimacs_text.specs.declared.problem.ArcRow.{ArcRow}
@@ -158,8 +158,3 @@ pub record IsAugmented (arcs : List ArcRow) (s : List Predecessor) (t : ℕ) (x 
 -- the sum of all capacities
 abbrev pub cap_total : List ArcRow → ℕ
 cap_total arcs = sum_by (λ a. part_above_0 a.cap) arcs
-
--- each supply is within its limit either way
-pub record AreSupplies (supply : ℕ → ℤ) : Type 0 where
-  pub low : (v : ℕ) → neg_ℤ (pos supply_limit) ≤ℤ supply v
-  pub high : (v : ℕ) → supply v ≤ℤ pos supply_limit

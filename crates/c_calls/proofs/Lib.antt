@@ -1,5 +1,4 @@
 mod ReadLemmas
-mod LineLemmas
 mod ListLemmas
 mod ArrayLemmas
 mod ArrayLines

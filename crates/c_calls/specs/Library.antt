@@ -7,7 +7,7 @@ use Rattle.dimacs_lines.specs.Fault.{number_of}
 use Rattle.dimacs_lines.specs.Lines.{Line}
 use Rattle.dimacs_text.specs.Group.{Gathered}
 use Rattle.dimacs_text.specs.Reading.{ProblemValue, reads}
-use Rattle.flow_solver.specs.Answer.{AreGreatestPotentials, IsAnswered, IsChosenCut}
+use Rattle.flow_solver.specs.Answer.{IsAnswered, IsChosenCut}
 use Rattle.flow_solver.specs.Moment.{Moment}
 use Rattle.flow_solver.specs.declared.verdict.Verdict.{Verdict}
 use Rattle.flow_solver.specs.declared.verdict.Verdict.TheVariants.{Best, Infeasible}
@@ -126,12 +126,9 @@ node_count m = m.instance.nodes
 
 -- ---- what the lists of a moment show
 
--- the potentials certify its flow, and none that do are greater
+-- the potentials certify its flow
 abbrev pub CertifyFlow : List ℤ → Moment → Type 0
 CertifyFlow potentials m = IsCertified m.instance (flow_of m) (at_node potentials)
-
-abbrev pub AreGreatestAt : List ℤ → Moment → Type 0
-AreGreatestAt potentials m = AreGreatestPotentials (reduced m.instance) m.flow (at_node potentials)
 
 -- no flow of it is legal
 abbrev pub NoneIsLegal : Moment → Type 0

@@ -1,11 +1,12 @@
 //! The lists of the present moment, copied to where C has room for them.
 
 ghost use Rattle.std.specs.Prelude.{◌≡◌, ◌≢◌, pos, length};
-ghost use Rattle.network.specs.Instance.{IsBest};
+ghost use Rattle.network.specs.Flow.{IsGreatestPotential};
+ghost use Rattle.network.specs.Instance.{IsBest, at_node, reduced};
 ghost use Rattle.flow_solver.specs.Answer.{IsAnswered};
 ghost use Rattle.session.specs.Parts.{flow_of};
 ghost use Rattle.session.specs.Session.{present};
-ghost use Rattle.c_calls.specs.Library.{AreGreatestAt, CertifyFlow, IsBreachOf, IsChosen, NoneIsLegal, arc_count, given, given_of, has_cut, has_flow, is_feasible, node_count};
+ghost use Rattle.c_calls.specs.Library.{CertifyFlow, IsBreachOf, IsChosen, NoneIsLegal, arc_count, given, given_of, has_cut, has_flow, is_feasible, node_count};
 
 use crate::status::{NOT_THERE, OTHER_LENGTH};
 use flow_solver::Verdict;
@@ -26,7 +27,8 @@ pub fn give_potentials(session: &Session, room: &mut [i64]) -> i32
     ensures status { result ≡ given_of (present session.now) has_flow node_count (length room.old) }
     ensures copied { result ≡ pos 0 → room.new ≡ (present session.now).potentials }
     ensures certified { result ≡ pos 0 → CertifyFlow room.new (present session.now) }
-    ensures greatest { result ≡ pos 0 → AreGreatestAt room.new (present session.now) }
+    ensures greatest { result ≡ pos 0 → IsGreatestPotential
+        (reduced (present session.now).instance) (present session.now).flow (at_node room.new) }
     ensures unchanged { result ≢ pos 0 → room.new ≡ room.old }
 {
     give(is_feasible(session), session.potentials(), room)

@@ -1,6 +1,5 @@
 -- What the end of all searches tells of the instance.
 use Rattle.std.proofs.Common.{◌≡◌, ℕ, All, ◌++◌, replicate, zero, suc, ◌+◌, ◌-◌, ◌*◌, ◌<◌, ◌≤◌, ℤ, pos, neg_ℤ, ◌≤ℤ◌, ◌-ℤ◌, List, [], ◌∷◌, length, drop, None, refl, sym, ap, subst, ◌∙◌, inl, inr, arith, Bool, true, false, cond}
-use Rattle.std.specs.Prelude.{slice_index_or}
 use Rattle.std.specs.Int.{w64}
 use Rattle.std.proofs.lemmas.Int.{ints, int_wrap_fits, fits_signed_from_abs}
 use Rattle.std.proofs.lemmas.Bool.{cases_lt, false≢true, false_from_ne_true}
@@ -14,7 +13,6 @@ use Rattle.std.specs.List.{AllByRecursion}
 use Rattle.dimacs_text.specs.Lawful.{IsLawfulRow}
 use Rattle.network.proofs.Circulation.{zero_bounds, zero_net}
 use Rattle.network.proofs.Reduction.{made, rows_of, reduced_ends, certified_is_best, breach_rules_out, from_reduced}
-use Rattle.network.proofs.Surplus.{surplus_at_most}
 use Rattle.flow_solver.specs.declared.verdict.Verdict.{Verdict}
 use Rattle.flow_solver.specs.declared.verdict.Verdict.TheVariants.{Best, Infeasible}
 use Rattle.augmentation.specs.Limits.{supply_limit}
@@ -26,35 +24,19 @@ use Rattle.augmentation.proofs.CutLemmas.{lack-none, none_above}
 use Rattle.residual_graph.specs.declared.side.Side.TheVariants.{Ahead, Behind}
 use Rattle.tracked.specs.Marks.{in_set}
 use Rattle.augmentation.specs.Nodes.{held}
-use Rattle.augmentation.proofs.NodeLemmas.{held_node}
 use Rattle.flow_solver.specs.Answer.{IsBestMoment, IsInfeasibleMoment, IsVerdict, IsChosenBreach, IsChosenCut, IsJudged, reduced_worth, IsAnswered}
 use Rattle.flow_solver.specs.Balance.{IsWrappedExcess}
 use Rattle.flow_solver.specs.TablesView.{IsFlowValue}
 use Rattle.flow_solver.specs.Moment.{Moment, IsReturnVerdict, ReturnMatches, ReturnMatchesBy, VerdictFits, returned, with_return}
 use Rattle.flow_solver.proofs.BalanceLemmas.{IsExactExcess, excess_exact}
-use Rattle.flow_solver.proofs.ExcessLemmas.{below_part}
-use Rattle.flow_solver.proofs.FlowLaws.{bounds_from, certified_same, certified_flow}
+use Rattle.residual_graph.proofs.Pseudoflows.{bounds_of}
+use Rattle.flow_solver.proofs.ExcessLemmas.{below_part, caps_of_instance, supply_of_instance}
+use Rattle.flow_solver.proofs.FlowLaws.{certified_of, node_entry}
 use Rattle.flow_solver.proofs.ChosenCut.{cut_least, cut_value, value_most}
-use Rattle.flow_solver.proofs.PushLaws.{amount_is, legal_flow, left_is}
-use Rattle.flow_solver.proofs.InstanceLemmas.{caps_of_instance, few_entries, range_of_labels, supplies_of_instance}
-
--- ---- entries 1 to n of a table
-
-pub node_entry : {A : Type 0} (xs : List A) (n v : ℕ) (d : A) → (1 ≤ v) × (v ≤ n) → slice_index_or (drop 1 xs) (v - 1) d ≡ slice_index_or xs v d
-node_entry xs n v d node = (let e : 1 + (v - 1) ≡ v = omega (arith, node.0) in get_or_after_one xs (v - 1) d ∙ ap (λ (w : ℕ). slice_index_or xs w d) e)
-
-pub agrees_at : (n : ℕ) (p : List ℤ) (v : ℕ) → (1 ≤ v) × (v ≤ n) → at_node (drop 1 p) v ≡ number_at p v
-agrees_at n p v node = node_entry p n v (pos 0) node
-
-pub marked_by : (n : ℕ) (set : List Bool) (v : ℕ) → (1 ≤ v) × (v ≤ n) → is_marked (drop 1 set) v ≡ in_set set v
-marked_by n set v node = node_entry set n v false node
+use Rattle.flow_solver.proofs.PushLaws.{amount_is, legal_flow}
 
 none_marked : (set : List Bool) → ((v : ℕ) → in_set set v ≡ false) → (v : ℕ) → is_marked (drop 1 set) v ≡ false
 none_marked set none v = get_or_after_one set (v - 1) false ∙ none (1 + (v - 1))
-
--- a flow that the potentials of the nodes certify is certified by the table
-pub certified_at : (I : Instance) (x p : List ℤ) → IsLawful I → IsCertifiedFlow (reduced I) x (at_node (drop 1 p)) → IsCertifiedFlow (reduced I) x (number_at p)
-certified_at I x p lawful certified = certified_same (reduced I) x (at_node (drop 1 p)) (number_at p) (reduced_ends I lawful) (λ v node. sym (agrees_at I.nodes p v node)) certified
 
 -- ---- the worth
 
@@ -94,15 +76,13 @@ pub record IsEnd (I : Instance) (y p e : List ℤ) (set : List Bool) : Type 0 wh
 
 module _ (I : Instance) (y p e : List ℤ) (set : List Bool) (end : IsEnd I y p e set) where
   bounds : AllWithinBounds (reduced I).arcs y
-  bounds = bounds_from (reduced I).arcs y end.certified.flow.same_length end.certified.flow.within
+  bounds = bounds_of end.certified.flow
 
   pub end_certified : IsCertifiedFlow (reduced I) y (at_node (drop 1 p))
-  end_certified =
-      certified_flow (reduced I) y p (at_node (drop 1 p)) (reduced_ends I end.lawful) (agrees_at I.nodes p) end.certified
-      (λ v node. range_of_labels (length p) p end.potentials_in v)
+  end_certified = certified_of I y p end.lawful end.certified end.potentials_in
 
   marks : (v : ℕ) → (1 ≤ v) × (v ≤ I.nodes) → is_marked (drop 1 set) v ≡ in_set set v
-  marks = marked_by I.nodes set
+  marks v node = node_entry set v false node.0
 
   ends : AllEndsAreNodes (reduced I)
   ends = reduced_ends I end.lawful
@@ -157,8 +137,8 @@ module _ (I : Instance) (y p e : List ℤ) (set : List Bool) (end : IsEnd I y p 
   -- no set has a surplus where nothing lies in excess
   surplus_none : left e ≡ 0 → (other : ℕ → Bool) → surplus_of (reduced I) other ≤ℤ pos 0
   surplus_none none other =
-      let all = left_is (reduced I) y e (reduced_ends I end.lawful) end.excess_is (omega (arith, end.excess_in)) in
-      let most = surplus_at_most (reduced I) y other (reduced_ends I end.lawful) bounds in
+      let all = amount_is Ahead (reduced I) y e ends end.excess_is (omega (arith, end.excess_in)) in
+      let most = value_most Ahead (reduced I) y other ends bounds in
       omega (arith, ints, all, most, none)
 
   excess_chosen : 0 < left e → IsChosenBreach (reduced I) (is_marked (drop 1 set)) (pos (left e))
@@ -220,8 +200,8 @@ module _ (I : Instance) (y p e : List ℤ) (set : List Bool) (end : IsEnd I y p 
   rows_end : AreRows (reduced I).arcs
   rows_end k lt = (let row = end.certified.flow.rows k lt in (row.low_at_least_0, row.low_at_most_cap))
 
-  supply_small : (neg_ℤ (pos (supply_limit * I.nodes)) ≤ℤ supply_of (reduced I) cut) × (supply_of (reduced I) cut ≤ℤ pos (supply_limit * I.nodes))
-  supply_small = supply_within I.nodes cut (reduced I).supply (λ v node. (let all = supplies_of_instance I end.lawful in let is = held_node I.nodes (reduced I).supply v node in (omega (arith, ints, all.low v, is), omega (arith, ints, all.high v, is))))
+  supply_in : (neg_ℤ (pos (supply_limit * I.nodes)) ≤ℤ supply_of (reduced I) cut) × (supply_of (reduced I) cut ≤ℤ pos (supply_limit * I.nodes))
+  supply_in = supply_within I.nodes cut (reduced I).supply (supply_of_instance I end.lawful)
 
   most_out : (pos 0 ≤ℤ cap_out (reduced I) cut) × (low_out (reduced I) cut ≤ℤ pos (cap_total (reduced I).arcs))
   most_out = picked_between (crosses cut (outside cut)) (reduced I).arcs rows_end
@@ -231,13 +211,13 @@ module _ (I : Instance) (y p e : List ℤ) (set : List Bool) (end : IsEnd I y p 
 
   pub left_fits : left e < 9223372036854775808
   left_fits = elim (cases_lt 0 (left e)) [
-    | inl some ↦ omega (arith, ints, (cut_of_excess I y p e set end some).value, supply_small.1, most_out.0, most_into.1, caps_of_instance I end.lawful, few_entries I end.lawful)
+    | inl some ↦ omega (arith, ints, (cut_of_excess I y p e set end some).value, supply_in.1, most_out.0, most_into.1, caps_of_instance I end.lawful, end.lawful.nodes.1)
     | inr le ↦ omega arith
   ]
 
   pub lack_fits : left e ≡ 0 → lack e < 9223372036854775808
   lack_fits none = elim (cases_lt 0 (lack e)) [
-    | inl some ↦ omega (arith, ints, (cut_of_deficit I y p e set end none some).value, supply_small.0, most_out.1, most_into.0, caps_of_instance I end.lawful, few_entries I end.lawful)
+    | inl some ↦ omega (arith, ints, (cut_of_deficit I y p e set end none some).value, supply_in.0, most_out.1, most_into.0, caps_of_instance I end.lawful, end.lawful.nodes.1)
     | inr le ↦ omega arith
   ]
 

@@ -1,5 +1,5 @@
 -- How the excess and the cost of a flow follow it from one change to the next.
-use Rattle.std.proofs.Common.{◌≡◌, ◌≢◌, ℕ, zero, suc, ◌+◌, ◌<◌, ◌≤◌, ◌^◌, ◌*◌, ◌%◌, ℤ, pos, ◌+ℤ◌, ◌-ℤ◌, ◌*ℤ◌, ◌≤ℤ◌, neg_ℤ, List, [], ◌∷◌, ◌++◌, length, sym, ap, subst, ◌∙◌, inl, inr, arith, FitsSigned, unsigned_abs, take, mul-le-mul}
+use Rattle.std.proofs.Common.{◌≡◌, ◌≢◌, ℕ, zero, suc, ◌+◌, ◌<◌, ◌≤◌, ◌^◌, ◌*◌, ◌%◌, ℤ, pos, ◌+ℤ◌, ◌-ℤ◌, ◌*ℤ◌, neg_ℤ, List, [], ◌∷◌, ◌++◌, length, sym, ap, subst, ◌∙◌, inl, inr, arith, FitsSigned, unsigned_abs, take, mul-le-mul}
 use Rattle.std.specs.Prelude.{◌⊎◌, slice_index_or, slice_set}
 use Rattle.std.specs.List.{AllPairs}
 use Rattle.std.specs.Int.{int_wrap, w64, w128, cast_signed, cast_unsigned}
@@ -11,18 +11,19 @@ use Rattle.std.proofs.lemmas.Int.{ints, int_wrap_fits, int_wrap-add_left, int_wr
 use Rattle.std.proofs.lemmas.Bool.{cases_eq}
 use Rattle.std.proofs.lemmas.List.{get_or-set_same, get_or-set_other, get_or_past, get_or_default, length-set, length-take-le, take_more, ext_get_or}
 use Rattle.dimacs_text.specs.declared.problem.ArcRow.{ArcRow}
+use Rattle.dimacs_text.specs.Lawful.{IsWithin}
 use Rattle.network.specs.Flow.{flow_sum, net, total_cost, AllWithinBounds}
 use Rattle.network.specs.Instance.{Instance, IsLawful, reduced}
 use Rattle.network.proofs.IntegerAlgebra.{linear, mul-sub, neg-mul, sub-mul}
 use Rattle.network.proofs.RunningSums.{abs-add}
-use Rattle.augmentation.specs.Limits.{cap_sum_limit}
+use Rattle.augmentation.specs.Limits.{excess_limit}
 use Rattle.residual_graph.specs.Residual.{IsPseudoflow, IsRow, IsWithinRow, row_at, number_at}
 use Rattle.augmentation.specs.Nodes.{held}
 use Rattle.tracked.specs.Touched.{NameChanges}
-use Rattle.augmentation.specs.Push.{AreSmall, AreSupplies, IsExcess, only_at, cap_total}
+use Rattle.augmentation.specs.Push.{AreSmall, IsExcess, only_at}
 use Rattle.flow_solver.specs.Balance.{IsCarried, IsRaised, IsWrappedCost, IsWrappedExcess, gain}
-use Rattle.flow_solver.proofs.ExcessLemmas.{AreWithinCaps, at_zero, caps_of_flow, flow_bounds, small_within}
-use Rattle.flow_solver.proofs.InstanceLemmas.{caps_of_instance, flow_of_instance, supplies_of_instance}
+use Rattle.residual_graph.proofs.Pseudoflows.{flow_of_instance}
+use Rattle.flow_solver.proofs.ExcessLemmas.{at_zero, excess_small}
 use Rattle.augmentation.proofs.PushLemmas.{at_same, at_other}
 
 -- ---- the table
@@ -138,30 +139,19 @@ excess_supplied arcs supply supply' x e f u before after other raised is v =
     raised.by_node (λ w. supply w -ℤ net arcs x w) is v
     ∙ ap (int_wrap w64) (let here = other v in omega (arith, ints))
 
--- of a flow within its bounds the excess fits, and so it is exact
-wrapped_within : (arcs : List ArcRow) (supply : ℕ → ℤ) (x e : List ℤ) → length x ≡ length arcs → AreWithinCaps arcs x → AreSupplies supply → cap_total arcs ≤ cap_sum_limit → IsWrappedExcess arcs supply x e → IsExcess arcs supply x e
-wrapped_within arcs supply x e sized within supplies caps is v =
-    let out = flow_bounds (λ a. a.tail) arcs x v sized within in
-    let in_ = flow_bounds (λ a. a.head) arcs x v sized within in
-    let z = supply v -ℤ net arcs x v in
-    let low : neg_ℤ (pos 301000000000000) ≤ℤ (supply v -ℤ net arcs x v) = omega (arith, ints, supplies.low v, out.1, in_.0, caps) in
-    let high : (supply v -ℤ net arcs x v) ≤ℤ pos 301000000000000 = omega (arith, ints, supplies.high v, out.0, in_.1, caps) in
-    is v ∙ int_wrap_fits w64 z (fits_signed_from_abs w64 z (omega (arith, ints, low, high)))
-
 pub record IsExactExcess (arcs : List ArcRow) (supply : ℕ → ℤ) (x e : List ℤ) : Type 0 where
   pub excess : IsExcess arcs supply x e
   pub small : AreSmall e
 
+-- of a flow within its bounds the excess fits, and so it is exact
 pub excess_exact : (I : Instance) (rows : List ArcRow) (x e : List ℤ) → IsLawful I → rows ≡ (reduced I).arcs → AllWithinBounds rows x → IsWrappedExcess rows (held I.nodes (reduced I).supply) x e → IsExactExcess rows (held I.nodes (reduced I).supply) x e
-excess_exact I rows x e lawful same bounds is =
-    let flow : IsPseudoflow (I.nodes + 1) rows x = rw same (flow_of_instance I x lawful (rw same at bounds)) in
-    let caps : cap_total rows ≤ cap_sum_limit = rw same (caps_of_instance I lawful) in
-    let supplies = supplies_of_instance I lawful in
-    let exact = wrapped_within rows (held I.nodes (reduced I).supply) x e flow.same_length (caps_of_flow flow) supplies caps is in
-    record {
-      excess = exact;
-      small = small_within (I.nodes + 1) rows (held I.nodes (reduced I).supply) x e flow.same_length (caps_of_flow flow) supplies caps exact;
-    }
+excess_exact I rows x e lawful same bounds is = record { excess = exact; small = record { low = λ v. omega (arith, ints, exact v, (small v).0); high = λ v. omega (arith, ints, exact v, (small v).1) } }
+  where
+    small : (v : ℕ) → IsWithin (pos excess_limit) (held I.nodes (reduced I).supply v -ℤ net rows x v)
+    small v = rw same (excess_small I x v lawful (rw same at bounds))
+
+    exact : IsExcess rows (held I.nodes (reduced I).supply) x e
+    exact v = (let z = held I.nodes (reduced I).supply v -ℤ net rows x v in is v ∙ int_wrap_fits w64 z (fits_signed_from_abs w64 z (omega (arith, ints, (small v).0, (small v).1))))
 
 -- ---- the first arcs
 

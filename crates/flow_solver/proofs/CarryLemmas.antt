@@ -15,7 +15,7 @@ use Rattle.tracked.specs.Tracked.{TrackedView}
 use Rattle.flow_solver.proofs.BalanceLemmas.{cost_first, cost_last, cost_row, excess_first, excess_last, excess_row, excess_set, excess_supplied}
 use Rattle.residual_graph.proofs.GraphLemmas.{with_row}
 use Rattle.flow_solver.proofs.ChangeLemmas.{place_in, row_is, rows_changed, supplied, supplies_held}
-use Rattle.flow_solver.proofs.InstanceLemmas.{rows_of_instance}
+use Rattle.residual_graph.proofs.Pseudoflows.{rows_of_instance}
 use Rattle.residual_graph.proofs.NodeNumbers.{IsNodeOf}
 
 -- what each node of an instance has to send out

@@ -1,31 +1,28 @@
 -- What a change of the instance leaves of its tables, its flow and its excesses.
-use Rattle.std.proofs.Common.{◌≡◌, ℕ, zero, suc, ◌+◌, ◌-◌, ◌<◌, ◌≤◌, ℤ, pos, negsuc, neg_ℤ, ◌-ℤ◌, ◌+ℤ◌, ◌≤ℤ◌, List, [], ◌∷◌, length, refl, sym, ap, ◌∙◌, inl, inr, arith, slice_set, slice_index_or, unsigned_abs, All, ◌++◌}
+use Rattle.std.proofs.Common.{◌≡◌, ℕ, zero, suc, ◌-◌, ◌<◌, ◌≤◌, ℤ, pos, negsuc, neg_ℤ, ◌-ℤ◌, ◌+ℤ◌, ◌≤ℤ◌, List, [], ◌∷◌, length, refl, ap, ◌∙◌, inl, inr, arith, slice_set, slice_index_or, unsigned_abs, ◌++◌}
 use Rattle.std.specs.List.{AllZip}
 use Rattle.std.proofs.lemmas.Int.{ints}
 use native.Mathlib.Numerals.{unary_clauses}
-use Rattle.std.proofs.lemmas.Bool.{cases_lt, cases_eq}
-use Rattle.std.proofs.lemmas.List.{length-set, get_or_default, get_or_past, get_or-set_same, get_or-set_other}
-use Rattle.std.proofs.lemmas.List.Elements.{All-set}
+use Rattle.std.proofs.lemmas.Bool.{cases_eq}
+use Rattle.std.proofs.lemmas.List.{length-set, get_or_default, get_or-set_same, get_or-set_other}
 use Rattle.dimacs_text.specs.declared.problem.ArcRow.{ArcRow}
-use Rattle.dimacs_text.specs.Lawful.{IsLawfulRow, IsWithin}
-use Rattle.dimacs_text.specs.declared.problem.TheConstants.{SUPPLY_LIMIT}
+use Rattle.dimacs_text.specs.Lawful.{IsLawfulRow}
 use Rattle.dimacs_text.specs.declared.problem.Kind.TheVariants.{Min}
-use Rattle.network.specs.Flow.{MinCost, AllEndsAreNodes, FollowsSign, IsCertifiedFlow, IsWithinBounds, net, reduced_cost, total_excess}
+use Rattle.network.specs.Flow.{FollowsSign, IsCertifiedFlow, IsWithinBounds, excess, net, nodes_sum, positive_part, reduced_cost, total_excess}
 use Rattle.network.specs.Edited.{with_last}
-use Rattle.network.specs.Instance.{Demand, Supplies, Terminals, Instance, IsLawful, ArcFits, DemandFits, at_node, kind_of, numbered_flow, reduced, reduced_arcs, reduced_supply, with_supply}
-use Rattle.network.proofs.Reduction.{reduced_ends}
+use Rattle.network.specs.Instance.{Demand, Supplies, Terminals, Instance, IsLawful, DemandFits, at_node, kind_of, numbered_flow, reduced, reduced_arcs, reduced_supply, with_supply}
+use Rattle.network.proofs.Sums.{nodes_sum-add, nodes_sum-le, nodes_sum-one}
 use Rattle.residual_graph.specs.Residual.{number_at, row_at}
-use Rattle.augmentation.specs.Push.{IsExcess, IsTransfer, only_at as at_one, left}
-use Rattle.augmentation.specs.Nodes.{table, held}
+use Rattle.augmentation.specs.Push.{only_at as at_one}
+use Rattle.augmentation.specs.Nodes.{held}
 use Rattle.flow_solver.specs.Edit.{IsNearest}
 use Rattle.flow_solver.specs.TablesView.{flow_index, supplies_in}
 use Rattle.residual_graph.proofs.NodeNumbers.{IsNodeOf, is_node_or_not}
-use Rattle.augmentation.proofs.NodeLemmas.{length-table, table_at, held_node, held_other, net-none}
+use Rattle.augmentation.proofs.NodeLemmas.{held_node, held_other}
 use Rattle.augmentation.proofs.PushLemmas.{at_same, at_other}
-use Rattle.flow_solver.proofs.ExcessLemmas.{left-gain, at_node_bounds}
+use Rattle.flow_solver.proofs.ExcessLemmas.{at_node_bounds}
 use Rattle.flow_solver.proofs.BalanceLemmas.{net-push, net-set, net-set_row}
-use Rattle.flow_solver.proofs.PushLaws.{left_is}
-use Rattle.residual_graph.proofs.GraphLemmas.{lawful_row, with_row}
+use Rattle.residual_graph.proofs.GraphLemmas.{with_row}
 use Rattle.residual_graph.proofs.WalkLemmas.{rows_push}
 
 -- ---- the instance and its rows
@@ -69,23 +66,6 @@ rows_more I row = rows_push I.demand I.arcs row
 abbrev pub supplied : Instance → ℕ → ℤ → Instance
 supplied I v x = record { nodes = I.nodes; demand = with_supply I.demand v x; arcs = I.arcs; room = I.room }
 
-demand_supplied : (n : ℕ) (D : Demand) (v : ℕ) (x : ℤ) → DemandFits n D → IsWithin SUPPLY_LIMIT x → DemandFits n (with_supply D v x)
-demand_supplied n (Supplies s) v x fits limit = (length-set s (v - 1) x ∙ fits.0, All-set (IsWithin SUPPLY_LIMIT) s (v - 1) x limit fits.1)
-demand_supplied n _ v x fits limit = fits
-
-rows_supplied : (n : ℕ) (D : Demand) (v : ℕ) (x : ℤ) (arcs : List ArcRow) → All (λ arc. IsLawfulRow n arc × ArcFits D arc) arcs → All (λ arc. IsLawfulRow n arc × ArcFits (with_supply D v x) arc) arcs
-rows_supplied n (Supplies s) v x arcs rows = rows
-rows_supplied n _ v x arcs rows = rows
-
-pub lawful_supplied : (I : Instance) (v : ℕ) (x : ℤ) → IsLawful I → IsWithin SUPPLY_LIMIT x → IsLawful (supplied I v x)
-lawful_supplied I v x lawful limit = record {
-  nodes = lawful.nodes;
-  demand = demand_supplied I.nodes I.demand v x lawful.demand limit;
-  arcs = rows_supplied I.nodes I.demand v x I.arcs lawful.arcs;
-  count = lawful.count;
-  room = lawful.room;
-}
-
 arcs_supplied : (D : Demand) (arcs : List ArcRow) (v : ℕ) (x : ℤ) → reduced_arcs (with_supply D v x) arcs ≡ reduced_arcs D arcs
 arcs_supplied D arcs v x = grind arith
 
@@ -124,67 +104,63 @@ certified_more I row q x z certified near = record {
 
 -- ---- what is left
 
--- the excesses of a flow as a table
-abbrev excess_table : (I : MinCost) (x : List ℤ) → List ℤ
-excess_table I x = table (suc I.nodes) (λ v. held I.nodes I.supply v -ℤ net I.arcs x v)
+gained : (z y more : ℤ) → pos 0 ≤ℤ more → y ≤ℤ (z +ℤ more) → positive_part y ≤ℤ (positive_part z +ℤ more)
+gained (pos a) (pos b) more some le = omega (arith, ints, le)
+gained (negsuc a) (pos b) more some le = omega (arith, ints, le)
+gained (pos a) (negsuc b) more some le = omega (arith, ints, some)
+gained (negsuc a) (negsuc b) more some le = omega (arith, ints, some)
 
-length-excess : (I : MinCost) (x : List ℤ) → length (excess_table I x) ≡ suc I.nodes
-length-excess I x = length-table (suc I.nodes) (λ v. held I.nodes I.supply v -ℤ net I.arcs x v)
-
-excess_table_is : (I : MinCost) (x : List ℤ) → AllEndsAreNodes I → IsExcess I.arcs (held I.nodes I.supply) x (excess_table I x)
-excess_table_is I x ends v = elim (cases_lt v (suc I.nodes)) [
-  | inl lt ↦ table_at (suc I.nodes) (λ w. held I.nodes I.supply w -ℤ net I.arcs x w) v (pos 0) lt
-  | inr past ↦ (let none : IsNodeOf I.nodes v → ⊥ = λ h. omega (arith, h.1) in
-      let entry : number_at (excess_table I x) v ≡ pos 0 = get_or_past (excess_table I x) v (pos 0) (omega (arith, length-excess I x)) in
-      omega (arith, ints, entry, held_other I.nodes I.supply v none, net-none I.nodes I.arcs x v ends none))
-]
+-- where one node gains at most m, what lies in excess grows by at most m
+total_gained : (n : ℕ) (f g : ℕ → ℤ) (u m : ℕ) → IsNodeOf n u → ((v : ℕ) → IsNodeOf n v → g v ≤ℤ (f v +ℤ at_one u (pos m) v)) → nodes_sum n (λ v. positive_part (g v)) ≤ℤ (nodes_sum n (λ v. positive_part (f v)) +ℤ pos m)
+total_gained n f g u m node le =
+    let each = nodes_sum-le n (λ v. positive_part (g v)) (λ v. positive_part (f v) +ℤ at_one u (pos m) v) (λ v at. gained (f v) (g v) (at_one u (pos m) v) (at_node_bounds u (pos m) v (omega (arith, ints))).0 (le v at)) in
+    let split = nodes_sum-add n (λ v. positive_part (f v)) (λ v. at_one u (pos m) v) in
+    omega (arith, ints, each, split, nodes_sum-one n u (λ v. pos m) node.0 node.1)
 
 at_one-neg : (u v : ℕ) (a : ℤ) → at_one u (neg_ℤ a) v ≡ neg_ℤ (at_one u a v)
 at_one-neg u v a = grind (arith, ints)
 
 -- what is carried from one node to another is all that can come to lie in excess
-pub left-carried : (u w : ℕ) (d : ℤ) (e f : List ℤ) → IsTransfer u w d e f → left f ≤ left e + unsigned_abs d
-left-carried u w (pos n) e f moved =
-    left-gain e f w n moved.same_length (λ v. omega (arith, ints, moved.by_node v, (at_node_bounds u (pos n) v (omega (arith, ints))).0))
-left-carried u w (negsuc n) e f moved =
-    left-gain e f u (suc n) moved.same_length (λ v. omega (arith, ints, moved.by_node v, at_one-neg u v (pos (suc n)), at_one-neg w v (pos (suc n)), (at_node_bounds w (pos (suc n)) v (omega (arith, ints))).0))
-
--- a change of what is left, by what is carried from one node to another
-pub excess_carried : (I J : MinCost) (x y : List ℤ) (u w : ℕ) (d : ℤ) → AllEndsAreNodes I → AllEndsAreNodes J → J.nodes ≡ I.nodes → ((v : ℕ) → held J.nodes J.supply v ≡ held I.nodes I.supply v)
-    → ((v : ℕ) → net J.arcs y v ≡ (net I.arcs x v +ℤ at_one u d v) -ℤ at_one w d v) → total_excess J y ≤ℤ (total_excess I x +ℤ pos (unsigned_abs d))
-excess_carried I J x y u w d ends ends_after nodes supplies nets =
-    let e = excess_table I x in
-    let f = excess_table J y in
-    let e_is = excess_table_is I x ends in
-    let f_is = excess_table_is J y ends_after in
-    let moved : IsTransfer u w d e f = record {
-      same_length = length-excess J y ∙ ap suc nodes ∙ sym (length-excess I x);
-      by_node = λ v. omega (arith, ints, e_is v, f_is v, supplies v, nets v);
-    } in
-    omega (arith, ints, left_is I x e ends e_is (length-excess I x), left_is J y f ends_after f_is (length-excess J y), left-carried u w d e f moved)
+total_carried : (n : ℕ) (f g : ℕ → ℤ) (u w : ℕ) (d : ℤ) → IsNodeOf n u → IsNodeOf n w → ((v : ℕ) → g v ≡ (f v -ℤ at_one u d v) +ℤ at_one w d v) → nodes_sum n (λ v. positive_part (g v)) ≤ℤ (nodes_sum n (λ v. positive_part (f v)) +ℤ pos (unsigned_abs d))
+total_carried n f g u w (pos m) from to moved =
+    total_gained n f g w m to (λ v at. omega (arith, ints, moved v, (at_node_bounds u (pos m) v (omega (arith, ints))).0))
+total_carried n f g u w (negsuc m) from to moved =
+    total_gained n f g u (suc m) from (λ v at. omega (arith, ints, moved v, at_one-neg u v (pos (suc m)), at_one-neg w v (pos (suc m)), (at_node_bounds w (pos (suc m)) v (omega (arith, ints))).0))
 
 -- the flow of a changed arc went to another value
-pub excess_changed : (I : Instance) (x : List ℤ) (k : ℕ) (row : ArcRow) (z : ℤ) → IsLawful I → IsLawfulRow I.nodes row → ArcFits I.demand row → (1 ≤ k) × (k ≤ length I.arcs)
+pub excess_changed : (I : Instance) (x : List ℤ) (k : ℕ) (row : ArcRow) (z : ℤ) → IsLawfulRow I.nodes row → (1 ≤ k) × (k ≤ length I.arcs)
     → row.tail ≡ (slice_index_or I.arcs (k - 1) row).tail → row.head ≡ (slice_index_or I.arcs (k - 1) row).head → length x ≡ length (reduced I).arcs
     → total_excess (reduced (with_row I (k - 1) row)) (slice_set x (flow_index I.demand k) z) ≤ℤ (total_excess (reduced I) x +ℤ pos (unsigned_abs (z -ℤ number_at x (flow_index I.demand k))))
-excess_changed I x k row z lawful limits fits at tail head sized =
-    let arcs = (reduced I).arcs in
-    let place = flow_index I.demand k in
-    let same_tail : row.tail ≡ (row_at arcs place).tail = rw (row_is I k row at) tail in
-    let same_head : row.head ≡ (row_at arcs place).head = rw (row_is I k row at) head in
-    excess_carried (reduced I) (reduced (with_row I (k - 1) row)) x (slice_set x place z) row.tail row.head (z -ℤ number_at x place) (reduced_ends I lawful) (reduced_ends _ (lawful_row I (k - 1) row lawful limits fits)) refl (λ v. refl)
-    (λ v. (let kept = net-set_row arcs (slice_set x place z) place v row (place_in I k at) (length-set x place z ∙ sized) same_tail same_head in
-    let moved = net-set arcs x place v z (place_in I k at) sized in
-    let out = ap (λ (u : ℕ). at_one u (z -ℤ number_at x place) v) same_tail in
-    let into = ap (λ (u : ℕ). at_one u (z -ℤ number_at x place) v) same_head in
-    rw (← rows_changed I k row at.0) (omega (arith, ints, kept, moved, out, into))))
+excess_changed I x k row z limits at tail head sized =
+    total_carried I.nodes (excess (reduced I) x) (excess (reduced (with_row I (k - 1) row)) (slice_set x place z)) row.tail row.head d limits.tail limits.head (λ v. omega (arith, ints, nets v))
+  where
+    place : ℕ
+    place = flow_index I.demand k
+
+    d : ℤ
+    d = z -ℤ number_at x place
+
+    same_tail : row.tail ≡ (row_at (reduced I).arcs place).tail
+    same_tail = rw (row_is I k row at) tail
+
+    same_head : row.head ≡ (row_at (reduced I).arcs place).head
+    same_head = rw (row_is I k row at) head
+
+    nets : (v : ℕ) → net (reduced (with_row I (k - 1) row)).arcs (slice_set x place z) v ≡ (net (reduced I).arcs x v +ℤ at_one row.tail d v) -ℤ at_one row.head d v
+    nets v =
+        let kept = net-set_row (reduced I).arcs (slice_set x place z) place v row (place_in I k at) (length-set x place z ∙ sized) same_tail same_head in
+        let moved = net-set (reduced I).arcs x place v z (place_in I k at) sized in
+        let out = ap (λ (u : ℕ). at_one u d v) same_tail in
+        let into = ap (λ (u : ℕ). at_one u d v) same_head in
+        rw (← rows_changed I k row at.0) (omega (arith, ints, kept, moved, out, into))
 
 -- an arc was added with some flow
-pub excess_more : (I : Instance) (x : List ℤ) (row : ArcRow) (z : ℤ) → IsLawful I → IsLawful (with_last I row) → length x ≡ length (reduced I).arcs
-    → total_excess (reduced (with_last I row)) (x ++ z ∷ []) ≤ℤ (total_excess (reduced I) x +ℤ pos (unsigned_abs z))
-excess_more I x row z lawful lawful_after sized =
-    excess_carried (reduced I) (reduced (with_last I row)) x (x ++ z ∷ []) row.tail row.head z (reduced_ends I lawful) (reduced_ends (with_last I row) lawful_after) refl (λ v. refl)
-    (λ v. (let nets = net-push (reduced I).arcs x row v z sized in rw (← rows_more I row) (omega (arith, ints, nets))))
+pub excess_more : (I : Instance) (x : List ℤ) (row : ArcRow) (z : ℤ) → IsLawfulRow I.nodes row → length x ≡ length (reduced I).arcs → total_excess (reduced (with_last I row)) (x ++ z ∷ []) ≤ℤ (total_excess (reduced I) x +ℤ pos (unsigned_abs z))
+excess_more I x row z limits sized =
+    total_carried I.nodes (excess (reduced I) x) (excess (reduced (with_last I row)) (x ++ z ∷ [])) row.tail row.head z limits.tail limits.head (λ v. omega (arith, ints, nets v))
+  where
+    nets : (v : ℕ) → net (reduced (with_last I row)).arcs (x ++ z ∷ []) v ≡ (net (reduced I).arcs x v +ℤ at_one row.tail z v) -ℤ at_one row.head z v
+    nets v = (let more = net-push (reduced I).arcs x row v z sized in rw (← rows_more I row) (omega (arith, ints, more)))
 
 -- ---- what is left once a supply has changed
 
@@ -206,21 +182,15 @@ supplies_held I v z lawful kind node w = elim (is_node_or_not I.nodes w) [
       omega (arith, ints, held_other I.nodes (reduced I).supply w none, held_other I.nodes (reduced (supplied I v z)).supply w none))
 ]
 
-pub excess_supplied : (I : Instance) (v : ℕ) (z : ℤ) (x : List ℤ) → IsLawful I → kind_of I.demand ≡ Min → IsNodeOf I.nodes v → IsWithin SUPPLY_LIMIT z
+pub excess_supplied : (I : Instance) (v : ℕ) (z : ℤ) (x : List ℤ) → IsLawful I → kind_of I.demand ≡ Min → IsNodeOf I.nodes v
     → total_excess (reduced (supplied I v z)) x ≤ℤ (total_excess (reduced I) x +ℤ pos (unsigned_abs (z -ℤ (reduced I).supply v)))
-excess_supplied I v z x lawful kind node limit =
-    let d = z -ℤ (reduced I).supply v in
-    let ends = reduced_ends I lawful in
-    let ends_after = reduced_ends (supplied I v z) (lawful_supplied I v z lawful limit) in
-    let e = excess_table (reduced I) x in
-    let f = excess_table (reduced (supplied I v z)) x in
-    let e_is = excess_table_is (reduced I) x ends in
-    let f_is = rw (rows_kept I v z) at (excess_table_is (reduced (supplied I v z)) x ends_after) in
-    let e_in = length-excess (reduced I) x in
-    let f_in = length-excess (reduced (supplied I v z)) x in
-    let gain = left-gain e f v (unsigned_abs d) (f_in ∙ sym e_in) (λ w. omega (arith, ints, e_is w, f_is w, supplies_held I v z lawful kind node w, at_most v d w)) in
-    omega (arith, ints, left_is (reduced I) x e ends e_is e_in, left_is (reduced (supplied I v z)) x f ends_after (excess_table_is (reduced (supplied I v z)) x ends_after) f_in, gain)
+excess_supplied I v z x lawful kind node =
+    total_gained I.nodes (excess (reduced I) x) (excess (reduced (supplied I v z)) x) v (unsigned_abs d) node
+    (λ w at. omega (arith, ints, supply_at I.nodes I.demand v z kind lawful.demand node w at, ap (λ (rows : List ArcRow). net rows x w) (rows_kept I v z), at_most v d w))
   where
+    d : ℤ
+    d = z -ℤ (reduced I).supply v
+
     at_most : (u : ℕ) (d : ℤ) (w : ℕ) → at_one u d w ≤ℤ at_one u (pos (unsigned_abs d)) w
     at_most u d w = grind (arith, ints)
 

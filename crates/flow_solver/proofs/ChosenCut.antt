@@ -1,6 +1,5 @@
 -- The chosen cut: the nodes that those in excess reach are the least set of the greatest surplus, and the nodes that reach one in deficit that of the greatest shortfall.
-use Rattle.std.proofs.Common.{◌≡◌, ℕ, zero, suc, ◌<◌, ℤ, pos, negsuc, neg_ℤ, ◌+ℤ◌, ◌-ℤ◌, ◌*ℤ◌, ◌<ℤ◌, ◌≤ℤ◌, List, [], ◌∷◌, length, refl, sym, ◌∙◌, inl, inr, arith, Bool, true, false, not, ◌&&◌, if◌then◌else◌}
-use Rattle.std.specs.List.{AllByRecursion}
+use Rattle.std.proofs.Common.{◌≡◌, ℕ, zero, suc, ◌<◌, ℤ, pos, negsuc, neg_ℤ, ◌+ℤ◌, ◌-ℤ◌, ◌*ℤ◌, ◌<ℤ◌, ◌≤ℤ◌, List, [], ◌∷◌, length, refl, sym, ap, ◌∙◌, inl, inr, arith, Bool, true, false, not, ◌&&◌, if◌then◌else◌}
 use Rattle.std.proofs.lemmas.Int.{ints, by_lt_z}
 use Rattle.std.proofs.lemmas.Bool.{false≢true, true≢false, true_from_ne_false, cases_lt}
 use Rattle.dimacs_text.specs.declared.problem.ArcRow.{ArcRow}
@@ -13,15 +12,23 @@ use Rattle.residual_graph.specs.declared.residual.Way.{Way}
 use Rattle.residual_graph.specs.declared.residual.Way.TheVariants.{Forward, Backward}
 use Rattle.residual_graph.specs.declared.side.Side.{Side}
 use Rattle.residual_graph.specs.declared.side.Side.TheVariants.{Ahead, Behind}
-use Rattle.residual_graph.specs.Residual.{IsResidual, number_at, room_of, row_at}
+use Rattle.residual_graph.specs.Residual.{IsResidual, number_at, room_of}
 use Rattle.residual_graph.specs.Side.{IsRoot}
-use Rattle.residual_graph.proofs.NodeNumbers.{IsNodeOf, is_node_or_not}
+use Rattle.residual_graph.proofs.NodeNumbers.{IsNodeOf, ends_in, is_node_or_not}
 use Rattle.tracked.specs.Marks.{in_set}
 use Rattle.augmentation.specs.Cut.{AreOnSide, far_at, far_of, near_at, near_of}
 use Rattle.augmentation.specs.Push.{IsExcess}
 use Rattle.augmentation.specs.Nodes.{table, held}
 use Rattle.augmentation.proofs.NodeLemmas.{table_at, held_other, net-none}
 use Rattle.flow_solver.proofs.PushLaws.{excess_at, seen}
+
+seen_less : (side : Side) (a b : ℤ) → seen side (a -ℤ b) ≡ seen side a -ℤ seen side b
+seen_less Ahead a b = refl
+seen_less Behind a b = omega (arith, ints)
+
+seen_only : (side : Side) (a b : ℤ) → seen side a ≡ seen side b → a ≡ b
+seen_only Ahead a b same = same
+seen_only Behind a b same = omega (arith, ints, same)
 
 -- ---- what a set can send out, or has to
 
@@ -184,12 +191,13 @@ terms_same (suc n) f g most same v node =
 -- ---- the greatest value, and the sets that have it
 
 module _ (side : Side) (I : MinCost) (x : List ℤ) (set : ℕ → Bool) (ends : AllEndsAreNodes I) (bounds : AllWithinBounds I.arcs x) where
+  -- what is left in the set lies as far above its value as what could go across it lies above what does
+  gap : held_in side I x set -ℤ value side I set ≡ seen side (full_across side set I.arcs) -ℤ seen side (flow_across set I.arcs x)
+  gap =
+      omega (arith, ints, value_is side I set, seen_excess side I x set, ap (seen side) (excess_of-across I x set ends), seen_less side (supply_of I set) (full_across side set I.arcs), seen_less side (supply_of I set) (flow_across set I.arcs x))
+
   value_held : value side I set ≤ℤ held_in side I x set
-  value_held = both side (value_is side I set) (seen_excess side I x set) (across_most side set I.arcs x bounds)
-    where
-      both : (side : Side) → value side I set ≡ seen side (supply_of I set -ℤ full_across side set I.arcs) → held_in side I x set ≡ seen side (excess_of I x set) → seen side (flow_across set I.arcs x) ≤ℤ seen side (full_across side set I.arcs) → value side I set ≤ℤ held_in side I x set
-      both Ahead value_as held_as most = (let across = excess_of-across I x set ends in omega (arith, ints, value_as, held_as, most, across))
-      both Behind value_as held_as most = (let across = excess_of-across I x set ends in omega (arith, ints, value_as, held_as, most, across))
+  value_held = omega (arith, ints, gap, across_most side set I.arcs x bounds)
 
   held_most : held_in side I x set ≤ℤ total side I x
   held_most = nodes_sum-le I.nodes _ _ (λ v node. part_most (set v) (seen side (excess I x v)))
@@ -198,20 +206,13 @@ module _ (side : Side) (I : MinCost) (x : List ℤ) (set : ℕ → Bool) (ends :
   value_most = omega (arith, ints, value_held, held_most)
 
   value_if_closed : IsClosedSet side I.arcs x set → ((v : ℕ) → IsNode I v → pos 0 <ℤ seen side (excess I x v) → set v ≡ true) → ((v : ℕ) → IsNode I v → set v ≡ true → pos 0 ≤ℤ seen side (excess I x v)) → value side I set ≡ total side I x
-  value_if_closed closed holds none = both side (value_is side I set) (seen_excess side I x set) (across_if_closed side set I.arcs x bounds closed)
-      ∙ nodes_sum-same I.nodes _ _ (λ v node. part_if_in (set v) (seen side (excess I x v)) (holds v node) (none v node))
-    where
-      both : (side : Side) → value side I set ≡ seen side (supply_of I set -ℤ full_across side set I.arcs) → held_in side I x set ≡ seen side (excess_of I x set) → flow_across set I.arcs x ≡ full_across side set I.arcs → value side I set ≡ held_in side I x set
-      both Ahead value_as held_as same = (let across = excess_of-across I x set ends in omega (arith, ints, value_as, held_as, same, across))
-      both Behind value_as held_as same = (let across = excess_of-across I x set ends in omega (arith, ints, value_as, held_as, same, across))
+  value_if_closed closed holds none =
+      let all : held_in side I x set ≡ total side I x = nodes_sum-same I.nodes _ _ (λ v node. part_if_in (set v) (seen side (excess I x v)) (holds v node) (none v node)) in
+      omega (arith, ints, gap, ap (seen side) (across_if_closed side set I.arcs x bounds closed), all)
 
   module _ (full : value side I set ≡ total side I x) where
     closed_if_full : IsClosedSet side I.arcs x set
-    closed_if_full = closed_if_across side set I.arcs x bounds (both side (value_is side I set) (seen_excess side I x set) (omega (arith, ints, full, value_held, held_most)))
-      where
-        both : (side : Side) → value side I set ≡ seen side (supply_of I set -ℤ full_across side set I.arcs) → held_in side I x set ≡ seen side (excess_of I x set) → value side I set ≡ held_in side I x set → flow_across set I.arcs x ≡ full_across side set I.arcs
-        both Ahead value_as held_as same = (let across = excess_of-across I x set ends in omega (arith, ints, value_as, held_as, same, across))
-        both Behind value_as held_as same = (let across = excess_of-across I x set ends in omega (arith, ints, value_as, held_as, same, across))
+    closed_if_full = closed_if_across side set I.arcs x bounds (seen_only side (flow_across set I.arcs x) (full_across side set I.arcs) (omega (arith, ints, gap, full, value_held, held_most)))
 
     holds_if_full : (v : ℕ) → IsNode I v → pos 0 <ℤ seen side (excess I x v) → set v ≡ true
     holds_if_full v node = in_if_part (set v) (seen side (excess I x v)) (terms_same I.nodes _ _ (λ w h. part_most (set w) (seen side (excess I x w))) (omega (arith, ints, value_held, held_most, full)) v node)
@@ -229,20 +230,13 @@ seen_root Behind z y same above = omega (arith, ints, same, above)
 seen_same : (side : Side) (z y : ℤ) → z ≡ y → pos 0 ≤ℤ seen side z → pos 0 ≤ℤ seen side y
 seen_same side z y same above = rw (← same) above
 
-ends_at : (n : ℕ) (arcs : List ArcRow) → AllByRecursion (λ arc. IsNodeOf n arc.tail × IsNodeOf n arc.head) arcs → (k : ℕ) → k < length arcs → IsNodeOf n (row_at arcs k).tail × IsNodeOf n (row_at arcs k).head
-ends_at n [] ends k lt = absurd (omega arith)
-ends_at n (a ∷ arcs) ends zero lt = ends.0
-ends_at n (a ∷ arcs) ends (suc k) lt = ends_at n arcs ends.1 k (omega arith)
-
 module _ (side : Side) (I : MinCost) (x e : List ℤ) (set : List Bool) (cut : ℕ → Bool) (ends : AllEndsAreNodes I) (bounds : AllWithinBounds I.arcs x)
     (is : IsExcess I.arcs (held I.nodes I.supply) x e) (marks : (v : ℕ) → IsNode I v → cut v ≡ in_set set v) (on : AreOnSide side I.arcs x e set)
     (none : (v : ℕ) → in_set set v ≡ true → pos 0 ≤ℤ seen side (number_at e v))
   where
     both_nodes : (side : Side) (k : ℕ) (way : Way) → k < length I.arcs → IsNode I (near_at side I.arcs k way) × IsNode I (far_at side I.arcs k way)
-    both_nodes Ahead k Forward lt = ends_at I.nodes I.arcs ends k lt
-    both_nodes Ahead k Backward lt = (let at = ends_at I.nodes I.arcs ends k lt in (at.1, at.0))
-    both_nodes Behind k Forward lt = (let at = ends_at I.nodes I.arcs ends k lt in (at.1, at.0))
-    both_nodes Behind k Backward lt = ends_at I.nodes I.arcs ends k lt
+    both_nodes Ahead k way lt = ends_in I.nodes I.arcs ends k way lt
+    both_nodes Behind k way lt = (let at = ends_in I.nodes I.arcs ends k way lt in (at.1, at.0))
 
     closed_as : (f g : ℕ → Bool) → ((v : ℕ) → IsNode I v → f v ≡ g v) → IsClosedSet side I.arcs x f → IsClosedSet side I.arcs x g
     closed_as f g same closed k way residual near =

@@ -4,19 +4,21 @@ use native.Mathlib.Numerals.{unary_clauses}
 use Rattle.std.proofs.lemmas.Int.{ints, by_lt_z}
 use Rattle.std.proofs.lemmas.Option.{slice_get_within, slice_get-get_or, get_or_from_slice_get}
 use Rattle.std.proofs.lemmas.List.{get_or-set_same, length-set, length-append, get_or_push}
+use Rattle.std.proofs.lemmas.Slice.Zip.{AllZip-long}
 use Rattle.dimacs_text.specs.declared.command.Edit.{Edit}
 use Rattle.dimacs_text.specs.declared.command.Edit.TheVariants.{Cap, Low, Cost, Supply, Add, Close}
 use Rattle.dimacs_text.specs.declared.problem.ArcRow.{ArcRow}
 use Rattle.network.specs.Edited.{arc_of, edited, units, with_arc, with_last}
-use Rattle.network.specs.Flow.{IsCertifiedFlow, FollowsSign, reduced_cost}
+use Rattle.network.specs.Flow.{IsCertifiedFlow, IsWithinBounds, FollowsSign, reduced_cost}
 use Rattle.network.specs.Instance.{Instance, IsLawful, arc_at, reduced}
 use Rattle.network.proofs.EditedLemmas.{IsRowMade, Makes, edited_makes}
+use Rattle.network.proofs.Places.{zip_at}
 use Rattle.residual_graph.specs.Residual.{IsWithinRow, number_at}
-use Rattle.residual_graph.proofs.GraphLemmas.{with_row, lawful_more}
+use Rattle.residual_graph.proofs.GraphLemmas.{with_row}
+use Rattle.residual_graph.proofs.Pseudoflows.{bounds_at}
 use Rattle.flow_solver.specs.Part.{OfArc, place_of_edit}
 use Rattle.flow_solver.specs.TablesView.{flow_index}
 use Rattle.flow_solver.specs.Edit.{IsNearest, IsRowEdit, IsSupplyEdit, IsAltered, IsOfArc, GoesToNearest, IsAddEdit, IsMade, row_after_edit}
-use Rattle.flow_solver.proofs.FlowLaws.{bounds_at, bounds_length, signs_at}
 use Rattle.flow_solver.proofs.ChangeLemmas.{place_in, row_is, supplied, excess_changed, excess_more, excess_supplied}
 
 -- ---- what an accepted edit leads to
@@ -124,25 +126,25 @@ add_edit I t h l c k keeps lawful ok =
 
 -- ---- edits that were made
 
-pub row_made : (I : Instance) (edit : Edit) (k : ℕ) (row : ArcRow) (q : ℕ → ℤ) (x : List ℤ) (z : ℤ) → IsLawful I → IsCertifiedFlow (reduced I) x q → IsRowEdit I edit k row
+pub row_made : (I : Instance) (edit : Edit) (k : ℕ) (row : ArcRow) (q : ℕ → ℤ) (x : List ℤ) (z : ℤ) → IsCertifiedFlow (reduced I) x q → IsRowEdit I edit k row
     → IsNearest row (reduced_cost q row) (number_at x (flow_index I.demand k)) z → IsMade I (with_row I (k - 1) row) edit q x (slice_set x (flow_index I.demand k) z)
-row_made I edit k row q x z lawful certified change near =
+row_made I edit k row q x z certified change near =
     let place = flow_index I.demand k in
     let at = change.arc in
     let there = row_is I k row at in
     let bounds = subst (λ (a : ArcRow). IsWithinRow a (number_at x place)) there (bounds_at (reduced I).arcs x certified.bounds place (place_in I k at)) in
-    let sign = subst (λ (a : ArcRow). FollowsSign q a (number_at x place)) there (signs_at q (reduced I).arcs x certified.signs place (place_in I k at)) in
+    let sign = subst (λ (a : ArcRow). FollowsSign q a (number_at x place)) there (zip_at (FollowsSign q) _ (pos 0) (reduced I).arcs x certified.signs place (place_in I k at)) in
     let moved = change.moved q (number_at x place) z bounds sign near in
-    let more = excess_changed I x k row z lawful change.limits change.fits at change.tail change.head (bounds_length (reduced I).arcs x certified.bounds) in
+    let more = excess_changed I x k row z change.limits at change.tail change.head (AllZip-long IsWithinBounds (reduced I).arcs x certified.bounds) in
     record {
       after = change.after;
       altered = change.altered (with_row I (k - 1) row) q x (slice_set x place z) (record { row = row; there = set_there I.arcs k row at; flow = z; nearest = near; start_is = refl });
       grown = omega (arith, ints, more, moved);
     }
 
-pub add_made : (I : Instance) (edit : Edit) (row : ArcRow) (q : ℕ → ℤ) (x : List ℤ) (z : ℤ) → IsLawful I → IsCertifiedFlow (reduced I) x q → IsAddEdit I edit row → IsNearest row (reduced_cost q row) (pos 0) z → IsMade I (with_last I row) edit q x (x ++ z ∷ [])
-add_made I edit row q x z lawful certified change near =
-    let more = excess_more I x row z lawful (lawful_more I row lawful change.room change.limits change.fits) (bounds_length (reduced I).arcs x certified.bounds) in
+pub add_made : (I : Instance) (edit : Edit) (row : ArcRow) (q : ℕ → ℤ) (x : List ℤ) (z : ℤ) → IsCertifiedFlow (reduced I) x q → IsAddEdit I edit row → IsNearest row (reduced_cost q row) (pos 0) z → IsMade I (with_last I row) edit q x (x ++ z ∷ [])
+add_made I edit row q x z certified change near =
+    let more = excess_more I x row z change.limits (AllZip-long IsWithinBounds (reduced I).arcs x certified.bounds) in
     subst (λ (e : Edit). IsMade I (with_last I row) e q x (x ++ z ∷ [])) (sym change.is)
     (record {
       after = subst (λ (e : Edit). edited I e ≡ Ok (with_last I row)) change.is change.after;
@@ -152,7 +154,7 @@ add_made I edit row q x z lawful certified change near =
 
 pub supply_made : (I : Instance) (edit : Edit) (v : ℕ) (s : ℤ) (q : ℕ → ℤ) (x : List ℤ) → IsLawful I → IsSupplyEdit I edit v s → IsMade I (supplied I v s) edit q x x
 supply_made I edit v s q x lawful change =
-    let more = excess_supplied I v s x lawful change.kind change.node change.limit in
+    let more = excess_supplied I v s x lawful change.kind change.node in
     subst (λ (e : Edit). IsMade I (supplied I v s) e q x x) (sym change.is)
     (record {
       after = subst (λ (e : Edit). edited I e ≡ Ok (supplied I v s)) change.is change.after;

@@ -2,7 +2,6 @@ pub mod ExcessLemmas
 pub mod FlowLaws
 pub mod ChosenCut
 pub mod PushLaws
-pub mod InstanceLemmas
 pub mod AnswerLemmas
 pub mod ChangeLemmas
 pub mod EditRows

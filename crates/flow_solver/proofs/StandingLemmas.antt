@@ -1,23 +1,22 @@
 -- Where potentials that are the greatest stay the greatest, though arcs and flows change.
-use Rattle.std.proofs.Common.{◌≡◌, ℕ, zero, suc, ◌-◌, ◌<◌, ◌≤◌, ℤ, pos, ◌-ℤ◌, ◌+ℤ◌, ◌<ℤ◌, ◌≤ℤ◌, List, [], ◌∷◌, ◌++◌, length, drop, Some, refl, sym, ◌∙◌, ◌⊎◌, inl, inr, arith, Bool, cond, slice_index_or, slice_set}
+use Rattle.std.proofs.Common.{◌≡◌, ℕ, zero, suc, ◌-◌, ◌<◌, ◌≤◌, ℤ, pos, ◌-ℤ◌, ◌+ℤ◌, ◌<ℤ◌, ◌≤ℤ◌, List, [], ◌∷◌, ◌++◌, length, Some, refl, ◌∙◌, ◌⊎◌, inl, inr, arith, Bool, cond, slice_index_or, slice_set}
 use Rattle.std.specs.Prelude.{int_lt}
 use Rattle.std.specs.List.{AllZip}
 use Rattle.std.proofs.lemmas.Int.{ints, by_lt_z}
 use Rattle.std.proofs.lemmas.Bool.{cases_eq}
 use Rattle.std.proofs.lemmas.Grind.{common_steps}
 use Rattle.std.proofs.lemmas.Option.{slice_get-get_or}
+use Rattle.std.proofs.lemmas.Slice.Zip.{AllZip-long}
 use Rattle.std.proofs.lemmas.List.{get_or_append_left, get_or-set_other, get_or-set_same, length-append, length-set}
 use Rattle.dimacs_text.specs.declared.problem.ArcRow.{ArcRow}
 use Rattle.dimacs_text.specs.Lawful.{IsLawfulRow}
-use Rattle.network.specs.Flow.{MinCost, FollowsSign, IsCertifiedFlow, IsGreatestPotential, IsPotential, reduced_cost}
+use Rattle.network.specs.Flow.{MinCost, FollowsSign, IsWithinBounds, IsCertifiedFlow, IsGreatestPotential, IsPotential, reduced_cost}
 use Rattle.network.specs.Edited.{with_last}
-use Rattle.network.specs.Instance.{Instance, IsLawful, arc_at, at_node, reduced}
-use Rattle.network.proofs.Reduction.{reduced_ends}
+use Rattle.network.specs.Instance.{Instance, IsLawful, arc_at, reduced}
+use Rattle.network.proofs.Places.{zip_at, zip_from}
 use Rattle.residual_graph.specs.declared.graph.Graph.{Graph}
-use Rattle.residual_graph.specs.Residual.{AreGreatest, IsWithinRow, number_at, row_at}
+use Rattle.residual_graph.specs.Residual.{IsWithinRow, number_at, row_at}
 use Rattle.augmentation.specs.ScratchView.{ScratchView}
-use Rattle.residual_graph.specs.Walk.{AreRowsOf}
-use Rattle.flow_solver.specs.Answer.{AreGreatestPotentials}
 use Rattle.flow_solver.specs.declared.balance.Balance.{Balance}
 use Rattle.tracked.specs.Tracked.{TrackedView}
 use Rattle.flow_solver.specs.declared.part.Before.{Before}
@@ -26,12 +25,10 @@ use Rattle.flow_solver.specs.TablesView.{flow_index}
 use Rattle.flow_solver.specs.Potentials.{AreAsTold}
 use Rattle.flow_solver.specs.declared.potentials.Potentials.{Potentials}
 use Rattle.flow_solver.specs.Tables.{AreConsistent}
-use Rattle.flow_solver.proofs.AnswerLemmas.{agrees_at}
 use Rattle.residual_graph.proofs.GraphLemmas.{with_row}
+use Rattle.residual_graph.proofs.Pseudoflows.{bounds_at}
 use Rattle.flow_solver.proofs.ChangeLemmas.{supplied, row_is, rows_changed, rows_more, rows_kept}
 use Rattle.flow_solver.proofs.EditRows.{row_there}
-use Rattle.flow_solver.proofs.FlowLaws.{bounds_at, bounds_length, greatest_flow, signs_at, zip_from}
-use Rattle.network.proofs.Places.{all_zip-length}
 
 -- ---- a step up, where other potentials lie higher
 
@@ -66,7 +63,7 @@ module _ (p q : ℕ → ℤ) where
   }
 
   raised_signs : (arcs : List ArcRow) (x : List ℤ) → AllZip (FollowsSign p) arcs x → ((k : ℕ) → k < length arcs → reduced_cost p (row_at arcs k) ≡ pos 0 → FollowsSign q (row_at arcs k) (number_at x k)) → AllZip (FollowsSign raised) arcs x
-  raised_signs arcs x signs tight = zip_from (FollowsSign raised) _ (pos 0) arcs x (sym (all_zip-length (FollowsSign p) arcs x signs)) (λ k lt. raised_sign (row_at arcs k) (number_at x k) (signs_at p arcs x signs k lt) (tight k lt))
+  raised_signs arcs x signs tight = zip_from (FollowsSign raised) _ (pos 0) arcs x (AllZip-long (FollowsSign p) arcs x signs) (λ k lt. raised_sign (row_at arcs k) (number_at x k) (zip_at (FollowsSign p) _ (pos 0) arcs x signs k lt) (tight k lt))
 
   raised_range : (v : ℕ) → IsPotential (p v) → IsPotential (q v) → IsPotential (raised v)
   raised_range v here there = (let at = raised_at v in (omega (arith, ints), omega (arith, ints)))
@@ -77,18 +74,14 @@ module _ (p q : ℕ → ℤ) where
 greatest_still : (I J : MinCost) (x y : List ℤ) (p : ℕ → ℤ) → J.nodes ≡ I.nodes → IsCertifiedFlow I x p → IsGreatestPotential I x p
     → ((q : ℕ → ℤ) → IsCertifiedFlow J y q → (k : ℕ) → k < length I.arcs → reduced_cost p (row_at I.arcs k) ≡ pos 0 → FollowsSign q (row_at I.arcs k) (number_at x k))
     → IsGreatestPotential J y p
-greatest_still I J x y p nodes certified greatest keeps q other v node =
-    let below = greatest (raised p q) (record {
-      bounds = certified.bounds;
-      signs = raised_signs p q I.arcs x certified.signs (keeps q other);
-      range = λ w at. raised_range p q w (certified.range w at) (other.range w (at.0, omega (arith, at.1, nodes)));
-    }) v (node.0, omega (arith, node.1, nodes)) in
-    omega (arith, ints, below, raised_at p q v)
-
--- the shortest labels of the tables are the greatest
-pub greatest_labels : (I : Instance) (rows : List ArcRow) (x p : List ℤ) → AreRowsOf I rows → AreGreatest rows x p → AreGreatestPotentials (reduced I) x (at_node (drop 1 p))
-greatest_labels I rows x p of greatest = record {
-  none_above = greatest_flow (reduced I) x p (at_node (drop 1 p)) (reduced_ends I of.lawful) (agrees_at I.nodes p) (rw of.rows_are at greatest);
+greatest_still I J x y p nodes certified greatest keeps = record {
+  none_above = λ q other v node.
+      (let below = greatest.none_above (raised p q) (record {
+        bounds = certified.bounds;
+        signs = raised_signs p q I.arcs x certified.signs (keeps q other);
+        range = λ w at. raised_range p q w (certified.range w at) (other.range w (at.0, omega (arith, at.1, nodes)));
+      }) v (node.0, omega (arith, node.1, nodes)) in
+      omega (arith, ints, below, raised_at p q v));
 }
 
 -- ---- an arc that changes and keeps its residual arcs
@@ -111,10 +104,9 @@ sign_kept q a b x y tail head kept within sign = record {
 pub greatest_changed : (I : Instance) (k : ℕ) (row : ArcRow) (p : ℕ → ℤ) (x : List ℤ) (z : ℤ) → (1 ≤ k) × (k ≤ length I.arcs)
     → row.tail ≡ (slice_index_or I.arcs (k - 1) row).tail → row.head ≡ (slice_index_or I.arcs (k - 1) row).head
     → (reduced_cost p (row_at (reduced I).arcs (flow_index I.demand k)) ≡ pos 0 → KeepsResidualArcs (row_at (reduced I).arcs (flow_index I.demand k)) (number_at x (flow_index I.demand k)) row z)
-    → IsCertifiedFlow (reduced I) x p → AreGreatestPotentials (reduced I) x p → AreGreatestPotentials (reduced (with_row I (k - 1) row)) (slice_set x (flow_index I.demand k) z) p
-greatest_changed I k row p x z at tail head kept certified greatest = record {
-  none_above = greatest_still (reduced I) (reduced (with_row I (k - 1) row)) x (slice_set x place z) p refl certified greatest.none_above keeps;
-}
+    → IsCertifiedFlow (reduced I) x p → IsGreatestPotential (reduced I) x p → IsGreatestPotential (reduced (with_row I (k - 1) row)) (slice_set x (flow_index I.demand k) z) p
+greatest_changed I k row p x z at tail head kept certified greatest =
+    greatest_still (reduced I) (reduced (with_row I (k - 1) row)) x (slice_set x place z) p refl certified greatest keeps
   where
     place : ℕ
     place = flow_index I.demand k
@@ -124,12 +116,12 @@ greatest_changed I k row p x z at tail head kept certified greatest = record {
 
     -- the rule of signs at each arc after the change
     after : (q : ℕ → ℤ) → IsCertifiedFlow (reduced (with_row I (k - 1) row)) (slice_set x place z) q → (j : ℕ) → j < length (reduced I).arcs → FollowsSign q (row_at (slice_set (reduced I).arcs place row) j) (number_at (slice_set x place z) j)
-    after q other j lt = signs_at q (slice_set (reduced I).arcs place row) (slice_set x place z) (rw (rows_changed I k row at.0) other.signs) j (omega (arith, lt, length-set (reduced I).arcs place row))
+    after q other j lt = zip_at (FollowsSign q) _ (pos 0) (slice_set (reduced I).arcs place row) (slice_set x place z) (rw (rows_changed I k row at.0) other.signs) j (omega (arith, lt, length-set (reduced I).arcs place row))
 
     -- at the changed arc
     keeps_here : (q : ℕ → ℤ) → IsCertifiedFlow (reduced (with_row I (k - 1) row)) (slice_set x place z) q → place < length (reduced I).arcs → reduced_cost p (row_at (reduced I).arcs place) ≡ pos 0 → FollowsSign q (row_at (reduced I).arcs place) (number_at x place)
     keeps_here q other lt tight =
-        let many = bounds_length (reduced I).arcs x certified.bounds in
+        let many = AllZip-long IsWithinBounds (reduced I).arcs x certified.bounds in
         let there = rw (get_or-set_same (reduced I).arcs place row _ lt, get_or-set_same x place z (pos 0) (omega (arith, lt, many))) at (after q other place lt) in
         sign_kept q (row_at (reduced I).arcs place) row (number_at x place) z (rw before tail) (rw before head) (kept tight) (bounds_at (reduced I).arcs x certified.bounds place lt) there
 
@@ -140,19 +132,18 @@ greatest_changed I k row p x z at tail head kept certified greatest = record {
     ]
 
 -- where an arc is more, whatever its flow
-pub greatest_more : (I : Instance) (row : ArcRow) (p : ℕ → ℤ) (x : List ℤ) (z : ℤ) → IsCertifiedFlow (reduced I) x p → AreGreatestPotentials (reduced I) x p → AreGreatestPotentials (reduced (with_last I row)) (x ++ z ∷ []) p
-greatest_more I row p x z certified greatest = record {
-  none_above = greatest_still (reduced I) (reduced (with_last I row)) x (x ++ z ∷ []) p refl certified greatest.none_above keeps;
-}
+pub greatest_more : (I : Instance) (row : ArcRow) (p : ℕ → ℤ) (x : List ℤ) (z : ℤ) → IsCertifiedFlow (reduced I) x p → IsGreatestPotential (reduced I) x p → IsGreatestPotential (reduced (with_last I row)) (x ++ z ∷ []) p
+greatest_more I row p x z certified greatest =
+    greatest_still (reduced I) (reduced (with_last I row)) x (x ++ z ∷ []) p refl certified greatest keeps
   where
     keeps : (q : ℕ → ℤ) → IsCertifiedFlow (reduced (with_last I row)) (x ++ z ∷ []) q → (j : ℕ) → j < length (reduced I).arcs → reduced_cost p (row_at (reduced I).arcs j) ≡ pos 0 → FollowsSign q (row_at (reduced I).arcs j) (number_at x j)
     keeps q other j lt tight =
-        let many = bounds_length (reduced I).arcs x certified.bounds in
-        let there = signs_at q ((reduced I).arcs ++ row ∷ []) (x ++ z ∷ []) (rw (rows_more I row) other.signs) j (omega (arith, lt, length-append (reduced I).arcs (row ∷ []))) in
+        let many = AllZip-long IsWithinBounds (reduced I).arcs x certified.bounds in
+        let there : FollowsSign q (row_at ((reduced I).arcs ++ row ∷ []) j) (number_at (x ++ z ∷ []) j) = zip_at (FollowsSign q) _ (pos 0) ((reduced I).arcs ++ row ∷ []) (x ++ z ∷ []) (rw (rows_more I row) other.signs) j (omega (arith, lt, length-append (reduced I).arcs (row ∷ []))) in
         rw (get_or_append_left (reduced I).arcs (row ∷ []) _ j lt, get_or_append_left x (z ∷ []) (pos 0) j (omega (arith, lt, many))) at there
 
 -- and where a supply changed, which certifying potentials do not see
-pub greatest_supplied : (I : Instance) (v : ℕ) (value : ℤ) (p : ℕ → ℤ) (x : List ℤ) → AreGreatestPotentials (reduced I) x p → AreGreatestPotentials (reduced (supplied I v value)) x p
+pub greatest_supplied : (I : Instance) (v : ℕ) (value : ℤ) (p : ℕ → ℤ) (x : List ℤ) → IsGreatestPotential (reduced I) x p → IsGreatestPotential (reduced (supplied I v value)) x p
 greatest_supplied I v value p x greatest = record {
   none_above = λ q other. greatest.none_above q (record { bounds = rw (rows_kept I v value) at other.bounds; signs = rw (rows_kept I v value) at other.signs; range = other.range });
 }

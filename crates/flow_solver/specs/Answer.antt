@@ -26,10 +26,6 @@ abbrev pub IsVerdict : Verdict → Instance → List ℤ → (ℕ → Bool) → 
 IsVerdict (Best w) I flow set = IsBestMoment I flow set w
 IsVerdict (Infeasible d) I flow set = IsInfeasibleMoment I set d
 
--- no certifying potentials of the flow are above these at any node
-pub record AreGreatestPotentials (I : MinCost) (flow : List ℤ) (potential : ℕ → ℤ) : Type 0 where
-  pub none_above : IsGreatestPotential I flow potential
-
 -- where some set has a surplus, the set is the smallest of the greatest surplus; where none has, of the greatest shortfall
 pub record IsChosenBreach (I : MinCost) (set : ℕ → Bool) (d : ℤ) : Type 0 where
   pub surplus : (other : ℕ → Bool) → pos 0 <ℤ surplus_of I other → IsLeastGreatestSurplus I set d
@@ -44,7 +40,7 @@ pub record IsAnswered (m : Moment) : Type 0 where
   pub sized : IsWellFormed m
   pub certified : IsCertifiedFlow (reduced m.instance) m.flow (at_node m.potentials)
   pub verdict : IsVerdict m.verdict m.instance m.flow (is_marked m.cut)
-  pub greatest : AreGreatestPotentials (reduced m.instance) m.flow (at_node m.potentials)
+  pub greatest : IsGreatestPotential (reduced m.instance) m.flow (at_node m.potentials)
   pub chosen : IsChosenCut m.verdict (reduced m.instance) (is_marked m.cut)
 
 -- the worth of a flow of the reduced instance: its cost, or what the return arc carries

@@ -2,17 +2,13 @@
 use Rattle.std.specs.Prelude.{◌≡◌, ℤ, List, true, drop}
 use Rattle.augmentation.specs.Near.{AreInStep}
 use Rattle.augmentation.specs.ScratchView.{ScratchView}
+use Rattle.network.specs.Flow.{IsGreatestPotential}
 use Rattle.network.specs.Instance.{Instance, at_node, reduced}
-use Rattle.flow_solver.specs.Answer.{AreGreatestPotentials}
 use Rattle.flow_solver.specs.declared.potentials.Potentials.{Potentials}
-
--- the entries of a table behind the first are the greatest potentials of a flow
-abbrev pub AreGreatestIn : Instance → List ℤ → List ℤ → Type 0
-AreGreatestIn I x entries = AreGreatestPotentials (reduced I) x (at_node (drop 1 entries))
 
 -- potentials that are told to be the greatest of a flow are so
 abbrev pub AreAsTold : Instance → List ℤ → Potentials → Type 0
-AreAsTold I x p = p.greatest ≡ true → AreGreatestIn I x p.table.entries
+AreAsTold I x p = p.greatest ≡ true → IsGreatestPotential (reduced I) x (at_node (drop 1 p.table.entries))
 
 -- the potentials are the labels that a scratch holds, but at the nodes that are listed
 abbrev pub KeepStep : Potentials → ScratchView → Type 0

@@ -1,10 +1,12 @@
 //! A best flow, or the cut that tells why there is none, with the greatest potentials that certify it.
 
-ghost use Rattle.std.specs.Prelude.{◌≡◌, ℕ, ℤ, IsTrue, false, length};
+ghost use Rattle.std.specs.Prelude.{◌≡◌, ℕ, ℤ, IsTrue, drop, false, length};
+ghost use Rattle.network.specs.Flow.{IsGreatestPotential};
+ghost use Rattle.network.specs.Instance.{at_node, reduced};
 ghost use Rattle.augmentation.specs.Pseudoflow.{IsReady};
 ghost use Rattle.augmentation.specs.Push.{ArePushes};
 ghost use Rattle.tracked.specs.Tracked.{IsWritten};
-ghost use Rattle.flow_solver.specs.Potentials.{AreAsTold, AreGreatestIn, KeepStep};
+ghost use Rattle.flow_solver.specs.Potentials.{AreAsTold, KeepStep};
 ghost use Rattle.residual_graph.specs.Graph.{HasEntries};
 ghost use Rattle.residual_graph.specs.Residual.{IsPseudoflow};
 ghost use Rattle.augmentation.specs.Cut.{IsParted, AreOnSide, IsSideOfCut};
@@ -56,7 +58,8 @@ fn push_and_raise(
     ensures flow_written { IsWritten flow.old flow.new }
     ensures potentials_written { IsWritten potentials.old.table potentials.new.table }
     ensures ready { IsReady graph.now flow.new.entries potentials.new.table.entries excess.new }
-    ensures greatest { AreGreatestIn graph.now.net flow.new.entries potentials.new.table.entries }
+    ensures greatest { IsGreatestPotential (reduced graph.now.net) flow.new.entries
+        (at_node (drop 1 potentials.new.table.entries)) }
     ensures pushed { ArePushes graph.now.rows result.count
         flow.old.entries excess.old flow.new.entries excess.new }
     ensures parted { IsParted graph.now.rows flow.new.entries excess.new }
@@ -132,7 +135,8 @@ pub fn settle(
     ensures potentials_written { IsWritten potentials.old.table potentials.new.table }
     ensures cut_written { IsWritten cut.old cut.new }
     ensures ready { IsReady graph.now flow.new.entries potentials.new.table.entries excess.new }
-    ensures greatest { AreGreatestIn graph.now.net flow.new.entries potentials.new.table.entries }
+    ensures greatest { IsGreatestPotential (reduced graph.now.net) flow.new.entries
+        (at_node (drop 1 potentials.new.table.entries)) }
     ensures pushed { ArePushes graph.now.rows result
         flow.old.entries excess.old flow.new.entries excess.new }
     ensures scratch_in { length scratch.new.potentials ≡ length excess.new }

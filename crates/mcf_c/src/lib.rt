@@ -5,14 +5,15 @@
 
 ghost use Rattle.std.specs.Prelude.{◌≡◌, ◌≢◌, ◌↔◌, List, Option, None, pos, length};
 ghost use Rattle.dimacs_text.specs.declared.command.Command.TheVariants as commands;
-ghost use Rattle.network.specs.Instance.{IsBest};
+ghost use Rattle.network.specs.Flow.{IsGreatestPotential};
+ghost use Rattle.network.specs.Instance.{IsBest, at_node, reduced};
 ghost use Rattle.session.specs.Parts.{flow_of};
 ghost use Rattle.dimacs_lines.specs.Lines.{Line};
 ghost use Rattle.session.specs.Step.{StepBy};
 ghost use Rattle.c_calls.specs.Arrays.{IsEven, IsFirstFault, IsOpeningBy};
 ghost use Rattle.c_calls.specs.Answer.{AreListsKept, IsSameRoom, IsSolved, IsTooShort};
 ghost use Rattle.c_calls.specs.declared.status.TheConstants.{FAULT, OTHER_LENGTH, TOO_SHORT};
-ghost use Rattle.c_calls.specs.Library.{AreGreatestAt, CertifyFlow, IsBreachOf, IsChosen, IsFaultOf, IsOpening, IsViewOf, NoneIsLegal, Steps, Took, arc_count, has_cut, has_flow, node_count};
+ghost use Rattle.c_calls.specs.Library.{CertifyFlow, IsBreachOf, IsChosen, IsFaultOf, IsOpening, IsViewOf, NoneIsLegal, Steps, Took, arc_count, has_cut, has_flow, node_count};
 ghost use Rattle.mcf_c.specs.Handles.{AtPresent, AtSession, Goes, HoldsLines, KeepsLines, given_behind, group_behind, state_behind};
 
 mod handle;
@@ -234,7 +235,8 @@ pub extern "C" fn mcf_potentials(alloc: Global, handle: &mut Handle, potentials:
     ensures status { result ≡ given_behind handle.old has_flow node_count (length potentials.old) }
     ensures copied { result ≡ pos 0 → AtPresent handle.old (λ m. potentials.new ≡ m.potentials) }
     ensures certified { result ≡ pos 0 → AtPresent handle.old (CertifyFlow potentials.new) }
-    ensures greatest { result ≡ pos 0 → AtPresent handle.old (AreGreatestAt potentials.new) }
+    ensures greatest { result ≡ pos 0 → AtPresent handle.old
+        (λ m. IsGreatestPotential (reduced m.instance) m.flow (at_node potentials.new)) }
     ensures room { result ≢ pos 0 → potentials.new ≡ potentials.old }
     ensures unchanged { state_behind handle.new ≡ state_behind handle.old }
     ensures group { group_behind handle.new ≡ group_behind handle.old }

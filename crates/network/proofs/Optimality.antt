@@ -1,9 +1,9 @@
--- A legal flow that potentials certify costs least.
-use Rattle.std.proofs.Common.{◌≡◌, ℕ, ℤ, pos, ◌+ℤ◌, ◌-ℤ◌, ◌*ℤ◌, ◌≤ℤ◌, List, [], ◌∷◌, refl, sym, ap, ◌∙◌, arith}
+-- A legal flow that potentials certify costs least, and the potentials of the nodes alone tell.
+use Rattle.std.proofs.Common.{◌≡◌, ℕ, ℤ, pos, ◌+ℤ◌, ◌-ℤ◌, ◌*ℤ◌, ◌≤ℤ◌, List, [], ◌∷◌, refl, sym, ap, subst, ◌∙◌, arith}
 use Rattle.std.proofs.lemmas.Int.{ints, by_lt_z}
-use Rattle.std.specs.List.{AllZip}
+use Rattle.std.specs.List.{AllByRecursion, AllZip}
 use Rattle.dimacs_text.specs.declared.problem.ArcRow.{ArcRow}
-use Rattle.network.specs.Flow.{flow_sum, nodes_sum, MinCost, AllEndsAreNodes, IsWithinBounds, AllWithinBounds, IsLegalFlow, total_cost, IsLeastCostFlow, reduced_cost, FollowsSign, IsCertifiedFlow}
+use Rattle.network.specs.Flow.{flow_sum, nodes_sum, MinCost, IsNode, AllEndsAreNodes, IsWithinBounds, AllWithinBounds, IsLegalFlow, total_cost, IsLeastCostFlow, reduced_cost, FollowsSign, IsPotential, IsCertifiedFlow}
 use Rattle.network.proofs.IntegerAlgebra.{linear, add-mul, mul-le-mul, mul-le-mul_down}
 use Rattle.network.proofs.Sums.{nodes_sum-same}
 use Rattle.network.proofs.Balance.{balance}
@@ -55,3 +55,17 @@ certified_is_least I flow p ends legal certified = record {
       let le = reduced_total-le p I.arcs flow other certified.signs certified.bounds others.bounds in
       omega (arith, linear);
 }
+
+-- ---- potentials that agree at the nodes certify the same flows
+
+module _ (I : MinCost) (p q : ℕ → ℤ) (same : (v : ℕ) → IsNode I v → q v ≡ p v) where
+  signs_same : (arcs : List ArcRow) (flow : List ℤ) → AllByRecursion (λ arc. IsNode I arc.tail × IsNode I arc.head) arcs → AllZip (FollowsSign p) arcs flow → AllZip (FollowsSign q) arcs flow
+  signs_same [] [] ends signs = tt
+  signs_same (arc ∷ arcs) (x ∷ flow) ends signs =
+      let tail = same arc.tail ends.0.0 in
+      let head = same arc.head ends.0.1 in
+      (record { dear = λ dear. signs.0.dear (omega (arith, ints)); cheap = λ cheap. signs.0.cheap (omega (arith, ints)) }, signs_same arcs flow ends.1 signs.1)
+  signs_same _ _ ends signs = absurd signs
+
+  pub certified_same : (flow : List ℤ) → AllEndsAreNodes I → IsCertifiedFlow I flow p → IsCertifiedFlow I flow q
+  certified_same flow ends certified = record { bounds = certified.bounds; signs = signs_same I.arcs flow ends certified.signs; range = λ v node. subst IsPotential (sym (same v node)) (certified.range v node) }

@@ -160,7 +160,6 @@ pub record IsLeastGreatestShortfall (I : MinCost) (set : ℕ → Bool) (d : ℤ)
   pub greatest : (other : ℕ → Bool) → shortfall_of I other ≤ℤ d
   pub least : (other : ℕ → Bool) → shortfall_of I other ≡ d → (v : ℕ) → IsNode I v → set v ≡ true → other v ≡ true
 
--- no other certifying potentials are above these at any node
-abbrev pub IsGreatestPotential : MinCost → List ℤ → (ℕ → ℤ) → Type 0
-IsGreatestPotential I flow potential =
-    (other : ℕ → ℤ) → IsCertifiedFlow I flow other → (v : ℕ) → IsNode I v → other v ≤ℤ potential v
+-- the greatest potentials that certify a flow: no others are above them at any node
+pub record IsGreatestPotential (I : MinCost) (flow : List ℤ) (potential : ℕ → ℤ) : Type 0 where
+  pub none_above : (other : ℕ → ℤ) → IsCertifiedFlow I flow other → (v : ℕ) → IsNode I v → other v ≤ℤ potential v

@@ -175,7 +175,7 @@ module _ (n source sink : ℕ) (arcs : List ArcRow) (fits : DemandFits n (Termin
 
       sink_is_zero : IsGreatestPotential (reduced (made n (Terminals source sink) arcs 0)) (net arcs flow source ∷ flow) p → p sink ≡ pos 0
       sink_is_zero greatest =
-          let le = greatest raised raised_certified sink fits.1 in
+          let le = greatest.none_above raised raised_certified sink fits.1 in
           let at_sink = (capped_is (p sink -ℤ p sink)).1 (omega (arith, linear)) in
           let top = (certified.range sink fits.1).1 in
           omega (arith, linear)
@@ -215,7 +215,7 @@ moment_shows_minimum_cut m w answered best few = by m.verdict best answered.verd
         let same : z ≡ w = cc in
         let p = at_node m.potentials in
         let certified : IsCertified m.instance flow p = subst (λ (x : List ℤ). IsCertifiedFlow (reduced m.instance) x p) is.reduced_is answered.certified in
-        let greatest : IsGreatestPotential (reduced m.instance) (reduced_flow m.instance flow) p = subst (λ (x : List ℤ). IsGreatestPotential (reduced m.instance) x p) is.reduced_is answered.greatest.none_above in
+        let greatest : IsGreatestPotential (reduced m.instance) (reduced_flow m.instance flow) p = subst (λ (x : List ℤ). IsGreatestPotential (reduced m.instance) x p) is.reduced_is answered.greatest in
         let below : worth m.instance flow <ℤ RETURN_CAP = subst (λ (z : ℤ). z <ℤ RETURN_CAP) (sym same ∙ is.worth_is) few in
         shows_minimum_cut m.instance flow p answered.sized.lawful is.best.legal certified greatest below
     by (Infeasible d) e is = absurd cc

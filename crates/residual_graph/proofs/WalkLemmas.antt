@@ -121,14 +121,6 @@ module _ (g : GraphView) (is : AreRowsOf g.net g.rows) where
     all = none_out v n None (Some last) below (λ e passed. tt) (λ k way lt passed. omega (arith, end_in k row way lt, passed, some.1));
   }
 
-  -- and then by the one before
-  pub goes_on_before : (v end : ℕ) (next : Option ℕ) → end < ends_before g → SomeIff next (1 ≤ end) (end - 1) → IsNextEnd g v end next
-  goes_on_before v end None lt none = record { stands = tt; all = λ k way k_in here in_n passed. none (omega (arith, in_n)) }
-  goes_on_before v end (Some last) lt some = record {
-    stands = (omega (arith, some.0, some.1), λ le. absurd (omega (arith, le, lt, some.1)));
-    all = λ k way k_in here in_n passed. omega (arith, in_n, passed, some.1);
-  }
-
 -- ---- one loop over the walk
 
 pub come_first : (g : GraphView) (v : ℕ) (first : Option ℕ) (P : ℕ → Type 0) → IsNextEnd g v (2 * length g.rows) first → HasCome g v first P

@@ -3,6 +3,7 @@
 use Rattle.residual_graph.specs.Limits.{potential_floor, cost_limit, flow_limit, entry_limit, row_limit}
 use Rattle.std.specs.Prelude.{◌≡◌, ℕ, ◌<◌, ◌≤◌, ℤ, pos, neg_ℤ, ◌-ℤ◌, ◌+ℤ◌, ◌<ℤ◌, ◌≤ℤ◌, List, length, slice_index_or}
 use Rattle.dimacs_text.specs.declared.problem.ArcRow.{ArcRow}
+use Rattle.network.specs.Flow.{MinCost, AllEndsAreNodes, IsGreatestPotential}
 use Rattle.residual_graph.specs.declared.residual.ResidualArc.{ResidualArc}
 use Rattle.residual_graph.specs.declared.residual.Way.{Way}
 use Rattle.residual_graph.specs.declared.residual.Way.TheVariants.{Forward, Backward}
@@ -103,8 +104,7 @@ pub record IsReducedCostOptimal (arcs : List ArcRow) (x p : List ℤ) : Type 0 w
   pub potentials : ArePotentials (length p) potential_floor p
   pub none_below : NoneBelow arcs x p
 
--- no potentials at most 0 that give no residual arc a reduced cost below 0 are above these at any node
+-- a table with an entry for each node, and one in front for no node, holds the greatest potentials that certify a flow, whatever
+-- the nodes of these arcs have to send out
 abbrev pub AreGreatest : List ArcRow → List ℤ → List ℤ → Type 0
-AreGreatest arcs x p =
-    (q : ℕ → ℤ) → NoneBelowBy arcs x q → ((v : ℕ) → q v ≤ℤ pos 0) →
-    (v : ℕ) → q v ≤ℤ number_at p v
+AreGreatest arcs x p = (I : MinCost) → I.arcs ≡ arcs → AllEndsAreNodes I → IsGreatestPotential I x (number_at p)

@@ -2,10 +2,10 @@
 use Rattle.std.proofs.Common.{◌≡◌, ◌≢◌, ℕ, suc, ◌-◌, ◌≤◌, Bool, true, false, ℤ, pos, ◌≤ℤ◌, List, length, get_or, ext_get_or, refl, sym, ap, subst, ◌∙◌, arith}
 use Rattle.std.proofs.lemmas.Int.{by_lt_z}
 use Rattle.network.proofs.IntegerAlgebra.{linear}
-use Rattle.network.specs.Flow.{MinCost, IsNode, surplus_of, IsLeastGreatestSurplus, IsLeastGreatestShortfall, IsCertifiedFlow}
+use Rattle.network.specs.Flow.{MinCost, IsNode, surplus_of, IsGreatestPotential, IsLeastGreatestSurplus, IsLeastGreatestShortfall, IsCertifiedFlow}
 use Rattle.network.specs.Instance.{Demand, Supplies, Terminals, Sides, Instance, IsLawful, IsBest, IsLegalBy, IsCertified, IsAsGood, at_node, is_marked, numbered_flow, reduced, reduced_flow, worth}
 use Rattle.flow_solver.specs.Moment.{Moment}
-use Rattle.flow_solver.specs.Answer.{IsAnswered, IsVerdict, IsChosenCut, IsChosenBreach, AreGreatestPotentials}
+use Rattle.flow_solver.specs.Answer.{IsAnswered, IsVerdict, IsChosenCut, IsChosenBreach}
 use Rattle.flow_solver.specs.declared.verdict.Verdict.{Verdict}
 use Rattle.flow_solver.specs.declared.verdict.Verdict.TheVariants.{Best, Infeasible}
 use Rattle.run_laws.proofs.Certifying.{certified_of_best}
@@ -112,7 +112,7 @@ same_cut a b room is A B =
 -- ---- potentials
 
 potential_le : (I : Instance) (room : ℕ) (x y : List ℤ) (p q : ℕ → ℤ) → IsLawful I → IsBest I (numbered_flow I.demand x) → IsBest I (numbered_flow I.demand y) → x ≡ reduced_flow I (numbered_flow I.demand x) → y ≡ reduced_flow I (numbered_flow I.demand y)
-    → IsCertifiedFlow (reduced I) x p → AreGreatestPotentials (reduced I) y q → (v : ℕ) → IsNode (reduced I) v → p v ≤ℤ q v
+    → IsCertifiedFlow (reduced I) x p → IsGreatestPotential (reduced I) y q → (v : ℕ) → IsNode (reduced I) v → p v ≤ℤ q v
 potential_le I room x y p q lawful best other x_is y_is certified greatest v node =
     let of_x : IsCertified I (numbered_flow I.demand x) p = subst (λ (z : List ℤ). IsCertifiedFlow (reduced I) z p) x_is certified in
     let of_y : IsCertified I (numbered_flow I.demand y) p = certified_of_best I (numbered_flow I.demand x) (numbered_flow I.demand y) p lawful best other of_x in
@@ -125,7 +125,7 @@ best_room I room D flow best = record {
 }
 
 potential_same : (I : Instance) (room : ℕ) (u v : Verdict) (w : ℤ) (x y : List ℤ) (s t : ℕ → Bool) (p q : ℕ → ℤ) → IsLawful I → u ≡ Best w → v ≡ Best w → IsVerdict u I x s → IsVerdict v (record I { room = room }) y t
-    → IsCertifiedFlow (reduced I) x p → IsCertifiedFlow (reduced I) y q → AreGreatestPotentials (reduced I) x p → AreGreatestPotentials (reduced I) y q → (k : ℕ) → IsNode (reduced I) k → q k ≡ p k
+    → IsCertifiedFlow (reduced I) x p → IsCertifiedFlow (reduced I) y q → IsGreatestPotential (reduced I) x p → IsGreatestPotential (reduced I) y q → (k : ℕ) → IsNode (reduced I) k → q k ≡ p k
 potential_same I room u v w x y s t p q lawful is is' a b c d e f k node =
     let best : IsVerdict (Best w) I x s = subst (λ (z : Verdict). IsVerdict z I x s) is a in
     let other : IsVerdict (Best w) (record I { room = room }) y t = subst (λ (z : Verdict). IsVerdict z (record I { room = room }) y t) is' b in
@@ -138,4 +138,4 @@ same_potentials a b room w is told A B =
     (potential_same a.instance room a.verdict b.verdict w a.flow b.flow (is_marked a.cut) (is_marked b.cut) (at_node a.potentials) (at_node b.potentials) A.sized.lawful told (same_verdict a b room is A B ∙ told) A.verdict
     (subst (λ (J : Instance). IsVerdict b.verdict J b.flow (is_marked b.cut)) is B.verdict) A.certified
     (subst (λ (J : Instance). IsCertifiedFlow (reduced J) b.flow (at_node b.potentials)) is B.certified) A.greatest
-    (subst (λ (J : Instance). AreGreatestPotentials (reduced J) b.flow (at_node b.potentials)) is B.greatest))
+    (subst (λ (J : Instance). IsGreatestPotential (reduced J) b.flow (at_node b.potentials)) is B.greatest))

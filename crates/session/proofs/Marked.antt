@@ -1,6 +1,6 @@
 -- Where the mark of a name stands.
 use Rattle.std.proofs.Common.{◌≡◌, inl, inr, ℕ, suc, ◌<◌, ◌≤◌, Bool, true, false, if◌then◌else◌, Some, is_some, List, [], ◌∷◌, ◌++◌, length, set, refl, ap, arith}
-use Rattle.std.proofs.lemmas.Bool.{lt-ltb, cases_lt, false≢true}
+use Rattle.std.proofs.lemmas.Bool.{cases_lt, false≢true}
 use Rattle.session.specs.declared.marks.Mark.{Mark}
 use Rattle.session.specs.declared.marks.TheConstants.{MARK_LIMIT}
 use Rattle.session.specs.Marks.{has_name, marked, has_place, with_mark, place_of}
@@ -42,9 +42,6 @@ module _ (marks : List Mark) (name : List ℕ) (moment i : ℕ) (is : i ≡ plac
 
   pub no_place : length marks ≤ i → length marks ≡ MARK_LIMIT → false ≡ has_place marks name
   no_place above full = rw ((is_out marks name moment (rw (← is) above)).0, full) refl
-
-  pub a_place_more : length marks ≤ i → length marks < MARK_LIMIT → true ≡ has_place marks name
-  a_place_more above room = rw ((is_out marks name moment (rw (← is) above)).0, lt-ltb (length marks) MARK_LIMIT room) refl
 
   pub put_last : length marks ≤ i → marks ++ the_mark name moment ∷ [] ≡ with_mark marks name moment
   put_last above = (is_out marks name moment (rw (← is) above)).1

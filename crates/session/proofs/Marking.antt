@@ -17,19 +17,6 @@ module _ {B : Type 0} where
   pub length-boards : (t : Timeline B) → length (all_boards t) ≡ length t.past + suc (length t.future)
   length-boards t = length-append t.past (t.present ∷ t.future)
 
-  pub moved_none : (t : Timeline B) (n : ℕ) → length t.past ≡ n → IsMovedTo n t t
-  moved_none t n past = record { boards = refl; past = past }
-
-  -- one step more
-  pub moved_back : (s t u : Timeline B) (b : Bool) (n k : ℕ) → IsMovedTo n s t → k + 1 ≡ n → IsTrue b ↔ (0 < length t.past) → OnTrue b (StepsBack t u) → IsMovedTo k s u
-  moved_back s t u true n k moved one answer step = record {
-    boards = all_boards_back t u step ∙ moved.boards;
-    past =
-        let more = ap length step.past ∙ length-append u.past (u.present ∷ []) in
-        omega (arith, more, moved.past, one);
-  }
-  moved_back s t u false n k moved one answer step = absurd (false≢true (answer.1 (omega (arith, moved.past, one))))
-
   pub moved_on : (s t u : Timeline B) (b : Bool) (n k : ℕ) → IsMovedTo n s t → n + 1 ≡ k → k ≤ length s.past + length s.future → IsTrue b ↔ (0 < length t.future) → OnTrue b (StepsForward t u) → IsMovedTo k s u
   moved_on s t u true n k moved one there answer step = record {
     boards = all_boards_forward t u step ∙ moved.boards;

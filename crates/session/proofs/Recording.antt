@@ -149,11 +149,6 @@ module _ (before : Option Moment) (m : Moment) (some : IsSome before) (was_answe
       (back, parts_back was_moment.instance m.instance log firsts of parts are)
 
   module _ (parts : List Part) (back : PartsLeadBack parts was_moment.instance m.instance) where
-    pub fewer_flows : (xs ys : List ℤ) → IfSome before (λ old. xs ≡ flow_of old) → ys ≡ flow_of m → length xs ≤ length ys
-    fewer_flows xs ys is_xs is_ys =
-        let kept = in_range_answered m answered in
-        omega (arith, old_arcs xs is_xs, ap length is_ys, kept.one_an_arc, back.shared_arcs)
-
     pub same_potentials : (xs ys : List ℤ) → IfSome before (λ old. xs ≡ old.potentials) → ys ≡ m.potentials → length xs ≤ length ys
     same_potentials xs ys is_xs is_ys =
         let was = in_range_answered was_moment was_answered in

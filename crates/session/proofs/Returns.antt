@@ -5,13 +5,7 @@ use Rattle.network.specs.Instance.{Demand, Terminals, numbered_flow, reduced_arc
 use Rattle.flow_solver.specs.declared.verdict.Verdict.{Verdict}
 use Rattle.flow_solver.specs.declared.verdict.Verdict.TheVariants.{Best, Infeasible}
 use Rattle.flow_solver.specs.TablesView.{flow_index}
-use Rattle.flow_solver.specs.Moment.{returned, VerdictFits, ReturnMatchesBy}
-
--- it has what the verdict tells
-pub tells_behind : (demand : Demand) (verdict : Verdict) (xs : List ℤ) → VerdictFits demand verdict → ReturnMatchesBy demand verdict (returned demand verdict ++ xs)
-tells_behind (Terminals source sink) (Best w) xs fits = refl
-tells_behind (Terminals source sink) (Infeasible d) xs fits = absurd fits
-tells_behind _ verdict xs fits = tt
+use Rattle.flow_solver.specs.Moment.{returned, VerdictFits}
 
 -- the flow of arc k stands at index k - 1 behind it
 pub get_or-behind : (demand : Demand) (verdict : Verdict) (xs : List ℤ) (k : ℕ) (d : ℤ) → VerdictFits demand verdict → 1 ≤ k → get_or (returned demand verdict ++ xs) (flow_index demand k) d ≡ get_or xs (k - 1) d

@@ -2,7 +2,7 @@
 use Rattle.std.proofs.Common.{◌≡◌, ℕ, ℤ, Bool, List, ◌++◌, length, sym, ap, subst, ◌∙◌, arith}
 use Rattle.network.specs.Instance.{IsLawful}
 use Rattle.flow_solver.specs.declared.verdict.Verdict.{Verdict}
-use Rattle.flow_solver.specs.Moment.{Moment, ReturnMatches, VerdictFits, returned, with_verdict}
+use Rattle.flow_solver.specs.Moment.{Moment, returned, with_verdict}
 use Rattle.flow_solver.specs.declared.part.Part.{Part}
 use Rattle.session.specs.Places.{exchanged, taken, end_of}
 use Rattle.session.specs.PlacesLaws.{length-exchanged}
@@ -10,7 +10,6 @@ use Rattle.session.specs.Parts.{Named, named, listed, flow_of, named_turned, par
 use Rattle.session.specs.Record.{Recorded, with_flow, with_record, record_turned, RecordFits}
 use Rattle.session.proofs.Endings.{ended_behind, end_of-exchanged}
 use Rattle.session.specs.ReturnLaws.{numbered_behind}
-use Rattle.session.proofs.Returns.{tells_behind}
 use Rattle.session.specs.RecordLaws.{go_there, record_is}
 
 -- the moment once the lists and the verdict are exchanged, and the parts are not
@@ -38,12 +37,6 @@ module _ (r : Recorded) (m : Moment) (fits : RecordFits r m) where
     -- before the verdict is exchanged
     third : m₃ ≡ record m { flow = returned m.instance.demand m.verdict ++ exchanged r.flows (flow_of m); potentials = exchanged r.potentials m.potentials; cut = exchanged r.marks m.cut }
     third = is_m₃ ∙ ap (λ (n : Moment). record n { cut = exchanged r.marks n.cut }) (is_m₂ ∙ ap (λ (n : Moment). record n { potentials = exchanged r.potentials n.potentials }) is_m₁)
-
-    pub tells_third : ReturnMatches m₃
-    tells_third = subst ReturnMatches (sym third) (tells_behind m.instance.demand m.verdict (exchanged r.flows (flow_of m)) fits.in_range.verdict)
-
-    pub fits_third : VerdictFits m₃.instance.demand r.verdict
-    fits_third = subst (λ (n : Moment). VerdictFits n.instance.demand r.verdict) (sym third) fits.verdict
 
     module _ (m₄ : Moment) (is_m₄ : m₄ ≡ with_verdict m₃ r.verdict) where
       fourth : m₄ ≡ lists_swapped r m

@@ -4,7 +4,7 @@ use Rattle.std.proofs.lemmas.Int.{to_z-of_z}
 use Rattle.dimacs_text.specs.declared.problem.ArcRow.{ArcRow}
 use Rattle.flow_solver.proofs.AnswerLemmas.{worth_is_cost}
 use Rattle.flow_solver.proofs.BalanceLemmas.{cost_exact}
-use Rattle.flow_solver.proofs.InstanceLemmas.{flow_of_instance}
+use Rattle.residual_graph.proofs.Pseudoflows.{flow_of_instance}
 use Rattle.flow_solver.proofs.answer.worth.Goals as goal
 
 pub cost_now-requires-clause-as_many : goal.cost_now-requires-clause-as_many

@@ -5,7 +5,7 @@ use Rattle.augmentation.specs.Limits.{left_limit}
 use Rattle.augmentation.specs.Push.{ArePushes, left}
 use Rattle.augmentation.proofs.CutLemmas.{parted_unless_both}
 use Rattle.augmentation.proofs.SettleLemmas.{ArePushes-more, left-small}
-use Rattle.flow_solver.proofs.StandingLemmas.{greatest_labels}
+use Rattle.flow_solver.proofs.FlowLaws.{greatest_of}
 use Rattle.flow_solver.proofs.settle.push_and_raise.Goals as goal
 
 pub returns-then-not-has_both-clause-parted : goal.returns-then-not-has_both-clause-parted
@@ -15,7 +15,7 @@ returns-then-not-has_both-clause-parted c =
 
 pub returns-then-not-has_both-2-clause-greatest : goal.returns-then-not-has_both-2-clause-greatest
 returns-then-not-has_both-2-clause-greatest c =
-    greatest_labels c.args.graph.now.net c.args.graph.now.rows c.push_proposed.new.flow.entries c.push_proposed.new.potentials.entries c.requires.rows c.in-Some.ensures.pushed.shortest.greatest
+    greatest_of c.args.graph.now.net c.args.graph.now.rows c.push_proposed.new.flow.entries c.push_proposed.new.potentials.entries c.requires.rows c.in-Some.ensures.pushed.shortest.greatest
 
 pub returns-then-not-has_both-2-clause-parted : goal.returns-then-not-has_both-2-clause-parted
 returns-then-not-has_both-2-clause-parted c =
@@ -28,15 +28,15 @@ returns-then-not-has_both-2-clause-parted c =
 
 pub returns-then-is_parted-clause-greatest : goal.returns-then-is_parted-clause-greatest
 returns-then-is_parted-clause-greatest c =
-    greatest_labels c.args.graph.now.net c.args.graph.now.rows c.push_proposed.new.flow.entries c.push_proposed.new.potentials.entries c.requires.rows c.in-Some.ensures.pushed.shortest.greatest
+    greatest_of c.args.graph.now.net c.args.graph.now.rows c.push_proposed.new.flow.entries c.push_proposed.new.potentials.entries c.requires.rows c.in-Some.ensures.pushed.shortest.greatest
 
 pub returns-in_default-clause-greatest : goal.returns-in_default-clause-greatest
 returns-in_default-clause-greatest c =
-    greatest_labels c.args.graph.now.net c.args.graph.now.rows c.push_all-count.new.flow.entries c.push_all-count.new.potentials.entries c.requires.rows c.push_all-count.ensures.pushed.shortest.greatest
+    greatest_of c.args.graph.now.net c.args.graph.now.rows c.push_all-count.new.flow.entries c.push_all-count.new.potentials.entries c.requires.rows c.push_all-count.ensures.pushed.shortest.greatest
 
 pub returns-clause-greatest : goal.returns-clause-greatest
 returns-clause-greatest c =
-    greatest_labels c.args.graph.now.net c.args.graph.now.rows c.push_all-more.new.flow.entries c.push_all-more.new.potentials.entries c.requires.rows c.push_all-more.ensures.pushed.shortest.greatest
+    greatest_of c.args.graph.now.net c.args.graph.now.rows c.push_all-more.new.flow.entries c.push_all-more.new.potentials.entries c.requires.rows c.push_all-more.ensures.pushed.shortest.greatest
 
 pub overflow_add-result : goal.overflow_add-result
 overflow_add-result c =

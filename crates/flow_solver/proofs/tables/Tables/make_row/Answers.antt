@@ -1,10 +1,9 @@
 use Rattle.std.proofs.Common.{◌≡◌, ◌∙◌, ◌-◌, ℤ, true, false, ap, subst, sym, rules, slice_set, w64, to_z, of_z}
 use Rattle.std.proofs.lemmas.Int.{to_z-of_z}
-use Rattle.network.specs.Flow.{reduced_cost}
-use Rattle.network.specs.Instance.{Instance, IsLawful, at_node, reduced}
+use Rattle.network.specs.Flow.{IsGreatestPotential, reduced_cost}
+use Rattle.network.specs.Instance.{Instance, at_node, reduced}
 use Rattle.residual_graph.specs.Residual.{row_at, number_at}
 use Rattle.flow_solver.specs.TablesView.{TablesView, flow_index}
-use Rattle.flow_solver.specs.Answer.{AreGreatestPotentials}
 use Rattle.flow_solver.specs.Edit.{IsCertifiedMoment, arc_flow, IsNearest, Makes, IsRowEdit, KeepsResidualArcs}
 use Rattle.flow_solver.specs.Moment.{Moment}
 use Rattle.residual_graph.proofs.GraphLemmas.{with_row}
@@ -43,11 +42,11 @@ invariant_of-self c =
     let now = ap (λ (d : TablesView). d.moment) c.self-2.view_is ∙ moment_is s in
     tables_told t.graph t.flow t.potentials t.balance t.cut t.scratch t.before c.if-self.stands c.self-2.invariant (λ stands.
     elim c.if-self.branch [
-      | then-self w ↦ subst (λ (n : Moment). AreGreatestPotentials (reduced n.instance) n.flow (at_node n.potentials)) (sym now)
+      | then-self w ↦ subst (λ (n : Moment). IsGreatestPotential (reduced n.instance) n.flow (at_node n.potentials)) (sym now)
           (greatest_changed m.instance c.edited_row-k.result.0 c.edited_row-k.result.1 (at_node m.potentials) m.flow (after s) (edit_is s).arc (edit_is s).tail (edit_is s).head
           (λ tight. subst (λ (y : ℤ). KeepsResidualArcs (row_at (reduced m.instance).arcs (flow_index m.instance.demand c.edited_row-k.result.0)) (number_at m.flow (flow_index m.instance.demand c.edited_row-k.result.0)) c.edited_row-k.result.1 y)
           (to_z-of_z w64 (after s) (search rules)) (w.keeps_greatest-stands.ensures (sym w.stands-is ∙ stands) tight)) c.requires.can.certified
-          (subst (λ (b : TablesView). AreGreatestPotentials (reduced b.moment.instance) b.moment.flow (at_node b.moment.potentials)) c.self.view_is (c.self.invariant.told w.if-self.true)))
+          (subst (λ (b : TablesView). IsGreatestPotential (reduced b.moment.instance) b.moment.flow (at_node b.moment.potentials)) c.self.view_is (c.self.invariant.told w.if-self.true)))
       | else-self w ↦ (let wrong : false ≡ true = sym w.if-self.false ∙ sym w.stands-is ∙ stands in cc)
     ])
 
@@ -56,9 +55,8 @@ returns c =
     let m = c.args.self.now.moment in
     let s = (goal.at.returns c).After-swap_flow in
     let now = ap (λ (d : TablesView). d.moment) c.self-2.view_is ∙ moment_is s in
-    let lawful : IsLawful m.instance = rw (← c.self.view_is) c.self.invariant.graph.rows.lawful in
     let both = subst (λ (n : Moment). Makes c.args.edit.now m n × IsCertifiedMoment n) (sym now) (
-      row_made m.instance c.args.edit.now c.edited_row-k.result.0 c.edited_row-k.result.1 (at_node m.potentials) m.flow (after s) lawful c.requires.can.certified (edit_is s) (near s),
+      row_made m.instance c.args.edit.now c.edited_row-k.result.0 c.edited_row-k.result.1 (at_node m.potentials) m.flow (after s) c.requires.can.certified (edit_is s) (near s),
       certified_changed m.instance c.edited_row-k.result.0 c.edited_row-k.result.1 (at_node m.potentials) m.flow (after s) (edit_is s).arc.0 c.requires.can.certified (near s),
     ) in
     record { made = both.0; certified = both.1; potentials = search rules; kept = search rules }

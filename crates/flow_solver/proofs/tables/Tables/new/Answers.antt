@@ -1,15 +1,44 @@
-use Rattle.std.proofs.Common.{add-one, ◌≡◌, ◌∙◌, ◌+◌, ℕ, suc, ℤ, arith, pos, false, List, map, drop, length, replicate, ap, sym, subst}
-use Rattle.std.proofs.lemmas.Bool.{false≢true, true≢false}
+use Rattle.std.proofs.Common.{add-one, ◌≡◌, ◌∙◌, ◌+◌, ◌-◌, ◌<◌, ℕ, suc, ℤ, arith, pos, false, List, [], ◌∷◌, map, drop, length, replicate, ap, sym, subst, inl, inr}
+use Rattle.std.specs.List.{AllZip}
+use Rattle.std.proofs.lemmas.Bool.{cases_lt, false≢true, true≢false}
+use Rattle.std.proofs.lemmas.Grind.{get_or_after_one}
 use Rattle.std.proofs.lemmas.Int.{ints}
-use Rattle.std.proofs.lemmas.List.{length-map, length-replicate}
-use Rattle.network.specs.Flow.{IsCertifiedFlow}
-use Rattle.network.specs.Instance.{Instance, at_node, reduced}
+use Rattle.std.proofs.lemmas.List.{get_or_past, get_or-replicate, length-map, length-replicate}
+use Rattle.dimacs_text.specs.declared.problem.ArcRow.{ArcRow}
+use Rattle.network.specs.Flow.{AllWithinBounds, FollowsSign, IsCertifiedFlow, IsWithinBounds}
+use Rattle.network.specs.Instance.{Instance, IsLawful, at_node, reduced}
 use Rattle.flow_solver.specs.Moment.{start}
 use Rattle.augmentation.specs.Nodes.{IsIdleEntry}
-use Rattle.residual_graph.specs.Residual.{number_at}
-use Rattle.flow_solver.proofs.InstanceLemmas.{start_certified, zero_entries}
+use Rattle.residual_graph.specs.Residual.{IsRow, number_at, row_at}
+use Rattle.residual_graph.proofs.Pseudoflows.{rows_of_instance}
 use Rattle.flow_solver.proofs.tables.Tables.new.Goals as goal
 use Rattle.flow_solver.proofs.tables.Tables.new.Goals.{In_ok-potentials}
+
+-- with potentials 0 the reduced cost is the cost, by whose sign the flow at the start is chosen
+start_fits : (n : ℕ) (q : ℕ → ℤ) (a : ArcRow) → IsRow n a → ((v : ℕ) → q v ≡ pos 0) → IsWithinBounds a (start a) × FollowsSign q a (start a)
+start_fits n q a row zero_at =
+    let order = row.low_at_most_cap in
+    let tail = zero_at a.tail in
+    let head = zero_at a.head in
+    ((grind (arith, ints), grind (arith, ints)), record { dear = λ dear. grind (arith, ints); cheap = λ cheap. grind (arith, ints) })
+
+start_keeps : (n : ℕ) (q : ℕ → ℤ) (arcs : List ArcRow) → ((k : ℕ) → k < length arcs → IsRow n (row_at arcs k)) → ((v : ℕ) → q v ≡ pos 0) → AllWithinBounds arcs (map start arcs) × AllZip (FollowsSign q) arcs (map start arcs)
+start_keeps n q [] rows zero_at = (tt, tt)
+start_keeps n q (a ∷ arcs) rows zero_at =
+    let here = start_fits n q a (rows 0 (omega arith)) zero_at in
+    let rest = start_keeps n q arcs (λ k lt. rows (suc k) (omega arith)) zero_at in
+    ((here.0, rest.0), (here.1, rest.1))
+
+start_certified : (I : Instance) (q : ℕ → ℤ) → IsLawful I → ((v : ℕ) → q v ≡ pos 0) → IsCertifiedFlow (reduced I) (map start (reduced I).arcs) q
+start_certified I q lawful zero_at =
+    let keeps = start_keeps (I.nodes + 1) q (reduced I).arcs (rows_of_instance I lawful) zero_at in
+    record { bounds = keeps.0; signs = keeps.1; range = λ v node. (omega (arith, ints, zero_at v), omega (arith, ints, zero_at v)) }
+
+zero_entries : (n v : ℕ) → at_node (drop 1 (replicate n (pos 0))) v ≡ pos 0
+zero_entries n v = get_or_after_one (replicate n (pos 0)) (v - 1) (pos 0) ∙ elim (cases_lt (1 + (v - 1)) n) [
+  | inl lt ↦ get_or-replicate n (1 + (v - 1)) (pos 0) (pos 0) lt
+  | inr past ↦ get_or_past (replicate n (pos 0)) (1 + (v - 1)) (pos 0) (omega (arith, past, length-replicate n (pos 0)))
+]
 
 -- a potential of 0 is within its limits
 idle_zeros : (n : ℕ) → IsIdleEntry (replicate (n + 1) (pos 0))

@@ -1,11 +1,10 @@
-use Rattle.std.proofs.Common.{◌∙◌, ◌<◌, ℤ, List, ap, arith, length, rules, subst, sym, w64, to_z, of_z}
+use Rattle.std.proofs.Common.{◌∙◌, ◌+◌, ◌<◌, ◌≤◌, ℤ, List, ap, arith, length, rules, subst, sym, w64, to_z, of_z}
 use Rattle.std.specs.Int.{w128}
 use Rattle.std.proofs.lemmas.Int.{to_z-of_z}
 use Rattle.std.proofs.lemmas.List.{length-append}
 use Rattle.dimacs_text.specs.declared.problem.ArcRow.{ArcRow}
-use Rattle.network.specs.Instance.{Instance}
+use Rattle.network.specs.Instance.{Demand, Instance, reduced_arcs}
 use Rattle.flow_solver.specs.TablesView.{TablesView}
-use Rattle.flow_solver.proofs.InstanceLemmas.{rows_counted}
 use Rattle.augmentation.specs.ScratchView.{ScratchView}
 use Rattle.flow_solver.proofs.CarryLemmas.{balance_put}
 use Rattle.flow_solver.proofs.HeldTables.{held_put}
@@ -43,9 +42,12 @@ invariant_of-self c =
       before_is = tt;
     }
 
+one_more : (D : Demand) (arcs : List ArcRow) → length (reduced_arcs D arcs) ≤ length arcs + 1
+one_more D arcs = grind arith
+
 pub push-requires : goal.push-requires
 push-requires c =
     let I = c.self.inside.graph.net in
     let inv = c.self.invariant in
     let room = subst (λ (b : TablesView). length b.moment.instance.arcs < b.moment.instance.room) (sym c.self.view_is) c.requires.room in
-    record { room = omega (arith, inv.flow_in, ap (λ (r : List ArcRow). length r) inv.graph.rows.rows_are, rows_counted I.demand I.arcs, room, inv.flow_fits) }
+    record { room = omega (arith, inv.flow_in, ap (λ (r : List ArcRow). length r) inv.graph.rows.rows_are, one_more I.demand I.arcs, room, inv.flow_fits) }

@@ -9,10 +9,10 @@ use Rattle.flow_solver.specs.Answer.{IsJudged, reduced_worth}
 use Rattle.augmentation.specs.Nodes.{held}
 use Rattle.flow_solver.specs.TablesView.{TablesView}
 use Rattle.flow_solver.proofs.TablesViewLemmas.{fit_written, sized_written}
-use Rattle.flow_solver.proofs.FlowLaws.{bounds_from}
+use Rattle.residual_graph.proofs.Pseudoflows.{bounds_of}
+use Rattle.flow_solver.proofs.FlowLaws.{optimal_of, potentials_of}
 use Rattle.flow_solver.proofs.PushLaws.{pushes_of, left_is}
-use Rattle.flow_solver.proofs.InstanceLemmas.{potentials_of, certified_of}
-use Rattle.flow_solver.proofs.AnswerLemmas.{IsEnd, exact_of_certified, wrapped_small, certified_at, end_certified, end_verdict, end_chosen, left_fits, lack_fits}
+use Rattle.flow_solver.proofs.AnswerLemmas.{IsEnd, exact_of_certified, wrapped_small, end_certified, end_verdict, end_chosen, left_fits, lack_fits}
 use Rattle.flow_solver.proofs.tables.Tables.settle.Goals as goal
 use Rattle.flow_solver.proofs.tables.Tables.settle.Goals.{After-settle-pushes, After-judge-self-inside}
 
@@ -22,15 +22,14 @@ settle-pushes-requires-clause-ready c =
     let I = t.graph.net in
     let inv = c.self.invariant in
     let flow = subst (λ (b : TablesView). IsCertifiedFlow (reduced b.moment.instance) b.moment.flow (at_node b.moment.potentials)) (sym c.self.view_is) c.requires in
-    let at = certified_at I t.flow.entries t.potentials.table.entries inv.graph.rows.lawful flow in
     record {
       state = record {
         graph = inv.potentials_in.entries_in;
-        certified = rw inv.graph.rows.rows_are (certified_of I t.flow.entries t.potentials.table.entries inv.graph.rows.lawful inv.potentials_in.entries_in inv.idle at);
+        certified = rw inv.graph.rows.rows_are (optimal_of I t.flow.entries t.potentials.table.entries inv.graph.rows.lawful inv.potentials_in.entries_in inv.idle flow);
         excess_in = inv.balance_is.sized ∙ sym inv.potentials_in.entries_in;
         small = (exact_of_certified I t.graph.rows t.flow.entries t.balance.excess (at_node (drop 1 t.potentials.table.entries)) inv.graph.rows.lawful inv.graph.rows.rows_are flow inv.balance_is.excess).small;
       };
-      in_range = potentials_of I.nodes t.potentials.table.entries inv.potentials_in.entries_in inv.idle at.range;
+      in_range = potentials_of I.nodes t.potentials.table.entries inv.potentials_in.entries_in inv.idle flow.range;
     }
 
 -- the flow is certified before
@@ -62,9 +61,7 @@ end c =
     }
 
 pub judge-self-inside-requires-clause-bounds : goal.judge-self-inside-requires-clause-bounds
-judge-self-inside-requires-clause-bounds c =
-    let flow = c.settle-pushes.ensures.ready.state.certified.flow in
-    rw c.rows.ensures (bounds_from c.self.inside.graph.rows c.settle-pushes.new.flow.entries flow.same_length flow.within)
+judge-self-inside-requires-clause-bounds c = rw c.rows.ensures (bounds_of c.settle-pushes.ensures.ready.state.certified.flow)
 
 pub judge-self-inside-requires-clause-left_fits : goal.judge-self-inside-requires-clause-left_fits
 judge-self-inside-requires-clause-left_fits c = left_fits _ _ _ _ _ (end (goal.at.judge-self-inside-requires-clause-left_fits c).After-settle-pushes)

@@ -8,7 +8,7 @@ use Rattle.residual_graph.specs.Residual.{row_at, number_at}
 use Rattle.augmentation.specs.ScratchView.{ScratchView}
 use Rattle.flow_solver.proofs.CarryLemmas.{balance_swapped, place_is, rows_swapped}
 use Rattle.flow_solver.proofs.HeldTables.{held_swapped}
-use Rattle.flow_solver.proofs.InstanceLemmas.{few_rows}
+use Rattle.residual_graph.proofs.WalkLemmas.{few_rows}
 use Rattle.flow_solver.proofs.TablesViewLemmas.{fit_written}
 use Rattle.tracked.proofs.TrackedLemmas.{IsWritten-same}
 use Rattle.flow_solver.proofs.tables.Tables.swap_row.Goals as goal
@@ -66,6 +66,5 @@ overflow_cast-place-2 c =
     let place = c.return_arcs.result + (k - 1) in
     let there = subst (λ (b : TablesView). (1 ≤ k) × (k ≤ length b.moment.instance.arcs)) (sym c.self.view_is) (c.requires.ends.0, c.requires.ends.1) in
     let at = place_is t.graph.net t.graph.rows k place rows.rows_are there (omega (arith, c.return_arcs.ensures)) in
-    let few = few_rows t.graph.net rows.lawful in
-    let bound : place < 2 ^ 32 = omega (arith, at.in_rows, few, ap (λ (r : List ArcRow). length r) rows.rows_are) in
+    let bound : place < 2 ^ 32 = omega (arith, at.in_rows, few_rows t.graph rows) in
     search (rules, bound)
