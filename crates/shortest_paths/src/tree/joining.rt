@@ -29,17 +29,20 @@ impl Tree {
         }
     }
 
-    /// Has the nodes beside noted arcs hang so.
+    /// Has the nodes beside noted arcs hang so that hang by such an arc.
     fn rejoin_beside(&mut self, residual: Residual<'_>)
         ensures { self.new ≡ self.old }
     {
         for i in 0..self.beside.places().len() {
             let v = entry(self.beside.places(), i);
-            self.rejoin(residual, v);
+            let k = self.arc_above(v);
+            if k >= self.noted.size() || self.noted.is_noted(k) {
+                self.rejoin(residual, v);
+            }
         }
     }
 
-    /// Has the nodes at these arcs hang so.
+    /// Has the nodes hang so that hang by one of these arcs.
     fn rejoin_along(&mut self, residual: Residual<'_>, written: &[u32])
         ensures { self.new ≡ self.old }
     {
@@ -47,9 +50,18 @@ impl Tree {
             let k = *arc as usize;
             if k < residual.graph.rows().len() {
                 let row = residual.graph.row(k);
-                self.rejoin(residual, row.tail);
-                self.rejoin(residual, row.head);
+                self.rejoin_by(residual, row.tail, k);
+                self.rejoin_by(residual, row.head, k);
             }
+        }
+    }
+
+    /// Has a node hang so if it hangs by this arc.
+    fn rejoin_by(&mut self, residual: Residual<'_>, v: u32, k: usize)
+        ensures { self.new ≡ self.old }
+    {
+        if self.arc_above(v) == k {
+            self.rejoin(residual, v);
         }
     }
 
@@ -81,5 +93,10 @@ impl Tree {
         } else {
             u32::MAX
         }
+    }
+
+    /// The arc along which that residual arc leads, or one that is not there.
+    fn arc_above(&self, v: u32) -> usize {
+        (self.end_above(v) / 2) as usize
     }
 }
