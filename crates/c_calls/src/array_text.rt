@@ -11,7 +11,8 @@ ghost use Rattle.c_calls.specs.ArrayText.{FitTheirTypes, array_text, fault_line}
 /// A law, with nothing to run: the text of arrays without a fault is read as their problem, and the first fault of others is
 /// that of their text, by its number and its line.
 pub fn arrays_are_as_their_text()
-    ensures problem { (a : Arrays) → IsEven a → FitTheirTypes a → AreFaultless a → reads (array_text a) ≡ Ok (problem_of a) }
+    ensures problem { (a : Arrays) → IsEven a → FitTheirTypes a → AreFaultless a
+        → reads (array_text a) ≡ Ok (problem_of a) }
     ensures fault { (a : Arrays) (f : ArrayFault) → IsEven a → FitTheirTypes a → IsFirstFault a f
         → reads (array_text a) ≡ Err (faults.Fault f.number (fault_line a f)) }
 {}

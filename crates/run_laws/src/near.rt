@@ -16,8 +16,12 @@ ghost use Rattle.run_laws.specs.Undone.{AllTurns, MakesEdits, NoneRefuses};
 /// flow of an arc that none of them names changes by no more than the units of all of them, whether there are plans between
 /// the two moments or not.
 pub fn runs_move_little()
-    ensures { (old new : SessionState) (changes : List Turn) (told : List (List ℕ)) (k : ℕ) (worth : ℤ)
-        → IsAnswered old.moments.present → old.moments.present.verdict ≡ Best worth → AllTurns MakesEdits changes → NoneRefuses told → Run old changes told new
-        → IsLeftOut old.moments.present.instance (edits_of (groups_of (present_kind old.moments) changes)) k
-        → MovesWithin (pos (units_all old.moments.present.instance (edits_of (groups_of (present_kind old.moments) changes)))) k old.moments.present new.moments.present }
+    ensures { (old new : SessionState) (changes : List Turn) (told : List (List ℕ)) (k : ℕ)
+        (worth : ℤ)
+        → IsAnswered old.moments.present → old.moments.present.verdict ≡ Best worth
+        → AllTurns MakesEdits changes → NoneRefuses told → Run old changes told new
+        → IsLeftOut old.moments.present.instance
+        (edits_of (groups_of (present_kind old.moments) changes)) k
+        → MovesWithin (pos (units_all old.moments.present.instance
+        (edits_of (groups_of (present_kind old.moments) changes)))) k old.moments.present new.moments.present }
 {}

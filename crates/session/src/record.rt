@@ -51,7 +51,8 @@ impl<A: Allocator + Copy> Record<A> {
         requires answered { IsAnswered tables.now.moment }
         ensures parts { IfOk result (λ r. ArePartsLogged tables.now r.parts) }
         ensures fits { IfOk result (λ r. RecordFits r tables.now.moment) }
-        ensures leads { IfOk result (λ r. tables.now.before ≡ Some (with_record r tables.now.moment)) }
+        ensures leads { IfOk result
+            (λ r. tables.now.before ≡ Some (with_record r tables.now.moment)) }
         ensures exact { IfOk result (λ r. Differs r tables.now.moment) }
     {
         let parts = parts_before(alloc, tables)?;

@@ -213,11 +213,26 @@ impl<A: Allocator + Copy> Session<A> {
         ensures kind { present_kind self.new.moments ≡ present_kind self.old.moments }
         ensures refused { OnErr result (self.new ≡ self.old) }
     {
+        if self.put_mark(name) {
+            Ok(())
+        } else {
+            Err(StepRefusal::TooManyMarks.number())
+        }
+    }
+
+    /// Puts the name's mark on the present moment, or moves it there. False where as many other names have marks as may.
+    pub(crate) fn put_mark(&mut self, name: &Name) -> bool
+        ensures answer { result ≡ has_place self.old.marks name.now }
+        ensures marked { OnTrue result (self.new ≡ present_marked self.old name.now) }
+        ensures few { AreMarks self.new.marks }
+        ensures kind { present_kind self.new.moments ≡ present_kind self.old.moments }
+        ensures unchanged { OnFalse result (self.new ≡ self.old) }
+    {
         let (past, _) = self.steps();
         if !self.marks.put(name, past) {
-            return Err(StepRefusal::TooManyMarks.number());
+            return false;
         }
-        Ok(())
+        true
     }
 
     /// Moves to the moment that bears the name, as so many undos or redos do. Nothing is solved, and it cannot fail for
@@ -233,8 +248,24 @@ impl<A: Allocator + Copy> Session<A> {
         ensures kind { present_kind self.new.moments ≡ present_kind self.old.moments }
         ensures refused { OnErr result (self.new ≡ self.old) }
     {
+        if self.move_to_mark(name) {
+            Ok(())
+        } else {
+            Err(StepRefusal::NoSuchMark.number())
+        }
+    }
+
+    /// Moves to the moment that bears the name. False where none does.
+    pub(crate) fn move_to_mark(&mut self, name: &Name) -> bool
+        ensures answer { result ≡ has_mark self.old.marks name.now }
+        ensures moved { MovesToMark name.now self.old self.new }
+        ensures places { map places_of self.new.records ≡ map places_of self.old.records }
+        ensures marks { self.new.marks ≡ self.old.marks }
+        ensures kind { present_kind self.new.moments ≡ present_kind self.old.moments }
+        ensures unchanged { OnFalse result (self.new ≡ self.old) }
+    {
         let Some(moment) = self.marks.moment_of(name) else {
-            return Err(StepRefusal::NoSuchMark.number());
+            return false;
         };
         let (past, _) = self.steps();
         if moment < past {
@@ -242,7 +273,7 @@ impl<A: Allocator + Copy> Session<A> {
         } else {
             self.redo_steps(moment - past);
         }
-        Ok(())
+        true
     }
 
     /// Goes so many moments back.
@@ -326,8 +357,10 @@ impl<A: Allocator + Copy> Session<A> {
     pub fn moved(&self, i: usize) -> Option<&Record<A>>
         ensures there { IsNone result ↔ (past_count self.now + length self.now.moments.future ≤ i) }
         ensures record { option_copied result ≡ slice_get self.now.records i }
-        ensures past { i < past_count self.now → IfSome result (λ r. LeadsToEarlier self.now i r.now) }
-        ensures future { past_count self.now ≤ i → IfSome result (λ r. LeadsToLater self.now i r.now) }
+        ensures past { i < past_count self.now
+            → IfSome result (λ r. LeadsToEarlier self.now i r.now) }
+        ensures future { past_count self.now ≤ i
+            → IfSome result (λ r. LeadsToLater self.now i r.now) }
     {
         self.history.change(i)
     }

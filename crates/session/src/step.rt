@@ -95,9 +95,10 @@ impl<A: Allocator + Copy> Session<A> {
         ensures step { IsStep (StepBy (commands.Mark name.now)) self.old result self.new }
         ensures kind { present_kind self.new.moments ≡ present_kind self.old.moments }
     {
-        match self.mark(name) {
-            Ok(()) => Ok(Reply::Verdict),
-            Err(_) => Err(StepRefusal::TooManyMarks),
+        if self.put_mark(name) {
+            Ok(Reply::Verdict)
+        } else {
+            Err(StepRefusal::TooManyMarks)
         }
     }
 
@@ -106,9 +107,10 @@ impl<A: Allocator + Copy> Session<A> {
         ensures step { IsStep (StepBy (commands.Back name.now)) self.old result self.new }
         ensures kind { present_kind self.new.moments ≡ present_kind self.old.moments }
     {
-        match self.back(name) {
-            Ok(()) => Ok(Reply::Verdict),
-            Err(_) => Err(StepRefusal::NoSuchMark),
+        if self.move_to_mark(name) {
+            Ok(Reply::Verdict)
+        } else {
+            Err(StepRefusal::NoSuchMark)
         }
     }
 }

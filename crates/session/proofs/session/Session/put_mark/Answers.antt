@@ -4,7 +4,7 @@ use Rattle.session.specs.Record.{with_record}
 use Rattle.session.specs.Session.{Stack}
 use Rattle.session.proofs.Apart.{put_few}
 use Rattle.session.proofs.Marking.{on_present}
-use Rattle.session.proofs.session.Session.mark.Goals as goal
+use Rattle.session.proofs.session.Session.put_mark.Goals as goal
 
 -- the mark is that of the present moment
 pub invariant_of-self-2 : goal.invariant_of-self-2

@@ -3,7 +3,7 @@ use Rattle.history.specs.Boards.{boards}
 use Rattle.session.specs.Record.{with_record}
 use Rattle.session.specs.Session.{Stack}
 use Rattle.session.proofs.Marking.{few_ahead}
-use Rattle.session.proofs.session.Session.back.Goals as goal
+use Rattle.session.proofs.session.Session.move_to_mark.Goals as goal
 
 -- so many moments are ahead
 pub redo_steps-requires : goal.redo_steps-requires
