@@ -2,7 +2,7 @@
 use Rattle.std.proofs.Common.{◌≡◌, ℕ, zero, suc, ◌<◌, ◌≤◌, ℤ, pos, negsuc, neg_ℤ, ◌≤ℤ◌, List, [], ◌∷◌, length, map, replicate, refl, sym, ap, subst, ◌∙◌, inl, inr, arith, Bool, true, false, cond, not, None}
 use Rattle.std.specs.Prelude.{◌<ℤ◌, Any, slice_set}
 use Rattle.std.proofs.lemmas.Int.{ints, by_lt_z}
-use Rattle.std.proofs.lemmas.Bool.{cases_eq, cases_lt, false≢true, true≢false, true_from_ne_false, false_from_ne_true}
+use Rattle.std.proofs.lemmas.Bool.{cases_eq, cases_lt, false≢true, true≢false, false_from_ne_true}
 use Rattle.std.proofs.lemmas.List.Sums.{sum_by-cons}
 use Rattle.std.specs.List.{count_by}
 use Rattle.std.proofs.lemmas.List.{ext_get_or, length-map, length-set, get_or-set_other, get_or-set_same, get_or-replicate, get_or_past}
@@ -20,7 +20,7 @@ use Rattle.shortest_paths.specs.declared.predecessor.Predecessor.{Predecessor}
 use Rattle.shortest_paths.specs.Predecessor.{predecessor_at}
 use Rattle.shortest_paths.specs.Search.{IsExhausted, IsReached}
 use Rattle.shortest_paths.proofs.SearchLemmas.{open_or_reached}
-use Rattle.augmentation.specs.Cut.{amount, near_at, near_of, far_at, far_of, AreFarIn, IsClosedAlong, LeadsOut, way_from, IsParted, IsGrown, AreMarkedListed, AreNodesIn, AreTaken, lack}
+use Rattle.augmentation.specs.Cut.{amount, near_at, near_of, far_of, AreFarIn, IsClosedAlong, LeadsOut, way_from, IsParted, IsGrown, AreMarkedListed, AreNodesIn, AreTaken, lack}
 use Rattle.tracked.specs.Marks.{in_set}
 use Rattle.residual_graph.specs.Side.{IsRoot}
 use Rattle.tracked.specs.Touched.{NameChanges}
@@ -144,9 +144,6 @@ module _ (arcs : List ArcRow) (x e : List ℤ) (s : List Predecessor) (flow : Is
 
 -- ---- sets that grow
 
-pub IsGrown-refl : (side : Side) (arcs : List ArcRow) (x : List ℤ) (set : List Bool) → IsGrown side arcs x set set
-IsGrown-refl side arcs x set = record { same_size = refl; kept = λ v h. h; least = λ other closed holds. holds }
-
 pub IsGrown-trans : {side : Side} {arcs : List ArcRow} {x : List ℤ} {old mid new : List Bool} → IsGrown side arcs x old mid → IsGrown side arcs x mid new → IsGrown side arcs x old new
 IsGrown-trans one two = record {
   same_size = two.same_size ∙ one.same_size;
@@ -164,26 +161,7 @@ far_all Ahead g x set v marked come k way near residual = come.passed k way resi
 far_all Behind g x set v marked come k Forward near residual = come.passed k Backward residual.is_arc near tt Forward residual (ap (in_set set) near ∙ marked)
 far_all Behind g x set v marked come k Backward near residual = come.passed k Forward residual.is_arc near tt Backward residual (ap (in_set set) near ∙ marked)
 
--- no residual arc leads out along an arc of which both ends are in the set, or neither
-pub closed_between : (side : Side) (arcs : List ArcRow) (x : List ℤ) (set : List Bool) (k : ℕ) → in_set set (row_at arcs k).tail ≡ in_set set (row_at arcs k).head → IsClosedAlong side arcs x set k
-closed_between Ahead arcs x set k same Forward residual near = sym same ∙ near
-closed_between Ahead arcs x set k same Backward residual near = same ∙ near
-closed_between Behind arcs x set k same Forward residual near = same ∙ near
-closed_between Behind arcs x set k same Backward residual near = sym same ∙ near
-
--- the way out along an arc goes from the end that is in the set
-out_from : (side : Side) (a : ArcRow) (set : List Bool) (way : Way) → in_set set (near_of side a way) ≡ true → in_set set (far_of side a way) ≡ false → way ≡ way_from side (in_set set a.tail)
-out_from Ahead a set Forward near far = ap (way_from Ahead) (sym near)
-out_from Ahead a set Backward near far = ap (way_from Ahead) (sym far)
-out_from Behind a set Forward near far = ap (way_from Behind) (sym far)
-out_from Behind a set Backward near far = ap (way_from Behind) (sym near)
-
--- where that way has no room, no residual arc leads out along the arc
-pub closed_along : (side : Side) (arcs : List ArcRow) (x : List ℤ) (set : List Bool) (k : ℕ) → (IsResidual arcs x k (way_from side (in_set set (row_at arcs k).tail)) → ⊥) → IsClosedAlong side arcs x set k
-closed_along side arcs x set k none way residual near =
-    true_from_ne_false (in_set set (far_at side arcs k way)) (λ far. none (subst (IsResidual arcs x k) (out_from side (row_at arcs k) set way near far) residual))
-
--- the end from which it goes, and the other one
+-- the end of an arc from which the way out goes, and the other one
 near_from : (side : Side) (a : ArcRow) (from_tail : Bool) → near_of side a (way_from side from_tail) ≡ cond from_tail a.tail a.head
 near_from Ahead a true = refl
 near_from Ahead a false = refl
@@ -206,17 +184,6 @@ out_along side arcs x set k from_tail flow residual near far = record {
   far = far_from side (row_at arcs k) from_tail;
   node = subst (λ (v : ℕ). v < length set) (far_from side (row_at arcs k) from_tail) (far_of-in side (length set) (row_at arcs k) (way_from side from_tail) (flow.rows k residual.is_arc));
   outside = far;
-}
-
--- the node to which a residual arc leads out comes into the set
-pub IsGrown-put : (side : Side) (arcs : List ArcRow) (x : List ℤ) (set : List Bool) (v : ℕ) → LeadsOut side arcs x set v → IsGrown side arcs x set (slice_set set v true)
-IsGrown-put side arcs x set v out = record {
-  same_size = length-set set v true;
-  kept = λ w h. still_noted set v w out.node h;
-  least = λ other closed holds w h. elim (cases_eq w v) [
-    | inl same ↦ subst (λ (q : ℕ). in_set other q ≡ true) (out.far ∙ sym same) (closed out.arc.arc out.arc.way out.residual (holds (near_at side arcs out.arc.arc out.arc.way) out.near))
-    | inr ne ↦ holds w (sym (get_or-set_other set v w true false ne) ∙ h)
-  ];
 }
 
 -- how much a node counts outside

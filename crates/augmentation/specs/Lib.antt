@@ -8,7 +8,6 @@ pub mod Settle
 pub mod Cut
 pub mod Side
 pub mod Found
-pub mod Trails
 pub mod Excess
 pub mod Scratch
 pub mod ScratchView

@@ -71,22 +71,10 @@ fn push_and_raise(
     if potentials.greatest && !excess.has_both() {
         return Pushed::counted(0);
     }
-    let Some(count) = push_proposed(
-        graph,
-        flow,
-        excess,
-        &mut potentials.table,
-        &mut potentials.apart,
-        scratch,
-    ) else {
-        let count = push_all(
-            graph,
-            flow,
-            excess,
-            &mut potentials.table,
-            &mut potentials.apart,
-            scratch,
-        );
+    let table = &mut potentials.table;
+    let apart = &mut potentials.apart;
+    let Some(count) = push_proposed(graph, flow, excess, table, apart, scratch) else {
+        let count = push_all(graph, flow, excess, table, apart, scratch);
         return Pushed::counted(count);
     };
     // After a cold solve the list still holds all nodes that had a supply.
@@ -100,14 +88,7 @@ fn push_and_raise(
             are_marked: true,
         };
     }
-    let more = push_all(
-        graph,
-        flow,
-        excess,
-        &mut potentials.table,
-        &mut potentials.apart,
-        scratch,
-    );
+    let more = push_all(graph, flow, excess, table, apart, scratch);
     Pushed {
         count: count + more,
         are_marked: false,

@@ -1,4 +1,3 @@
 pub mod SearchLemmas
 pub mod StepLemmas
 pub mod LabelLemmas
-pub mod LevelLemmas

@@ -1,5 +1,4 @@
 pub mod Knowledge
-pub mod Levels
 pub mod Limits
 pub mod Predecessor
 pub mod Progress

@@ -20,9 +20,6 @@ still_listed : (list more : List ℕ) (k : ℕ) → Any (λ p. p ≡ k) list →
 still_listed list more k (place, p, lt, is, same) = (place, p, omega (arith, lt, length-append list more), get_or_append_left list more p place lt ∙ is, same)
 
 module _ (set : List Bool) (list : List ℕ) (v : ℕ) (is : IsListOf set list) (node : v < length set) (out : in_set set v ≡ false) where
-  pub room_for_one : length list < length set
-  room_for_one = omega (arith, is.room, count_by-marked set v node out)
-
   set_kept : (w : ℕ) → in_set set w ≡ true → in_set (slice_set set v true) w ≡ true
   set_kept w h = elim (cases_eq w v) [
     | inl same ↦ subst (λ (q : ℕ). in_set (slice_set set v true) q ≡ true) (sym same) (get_or-set_same set v true false node)

@@ -1,12 +1,11 @@
--- Tables that note where they are written: notes that are forgotten, and what was written in turn.
+-- Tables that note where they are written: what is noted, and notes that are forgotten.
 use Rattle.std.proofs.Common.{◌≡◌, ℕ, suc, ◌+◌, ◌<◌, ◌≤◌, List, [], ◌∷◌, length, refl, sym, ap, subst, ◌∙◌, inl, inr, arith, Bool, true, false, cond, not}
 use Rattle.std.specs.Prelude.{◌⊎◌, ◌≢◌, slice_index_or, slice_set}
-use Rattle.std.proofs.lemmas.Bool.{cases_eq, cases_lt, false≢true, true≢false, false_from_ne_true}
+use Rattle.std.proofs.lemmas.Bool.{cases_eq, cases_lt, true≢false, false_from_ne_true}
 use Rattle.std.proofs.lemmas.List.{length-set, get_or-set_same, get_or-set_other, get_or_default, get_or_past}
 use Rattle.std.proofs.lemmas.List.Sums.{sum_by-cons}
 use Rattle.std.specs.List.{count_by}
 use Rattle.tracked.specs.Marks.{in_set, IsListOf}
-use Rattle.tracked.specs.Touched.{AreNoted}
 
 -- a place is noted, or it is not
 pub noted_or_not : (noted : List Bool) (k : ℕ) → (in_set noted k ≡ true) ⊎ (in_set noted k ≡ false)
@@ -47,21 +46,6 @@ not_noted noted place k out = elim (cases_eq k place) [
   ]
 ]
 
-pub AreForgotten-more : (noted : List Bool) (places : List ℕ) (j e : ℕ) (noted' : List Bool) → AreForgotten noted places j noted' → AreForgotten noted places (j + 1) (slice_set noted' (slice_index_or places j e) false)
-AreForgotten-more noted places j e noted' are =
-    let place = slice_index_or places j e in
-    record {
-      same_size = length-set noted' place false ∙ are.same_size;
-      forgotten = λ i d lt there. not_noted noted' place (slice_index_or places i d) (elim (cases_eq i j) [
-        | inl same ↦ inl (get_or_default places i d e there ∙ ap (λ q. slice_index_or places q e) same)
-        | inr other ↦ inr (are.forgotten i d (omega (arith, lt, other)) there)
-      ]);
-      before = λ k h. elim (cases_eq k place) [
-        | inl same ↦ absurd (true≢false (sym h ∙ not_noted noted' place k (inl same)))
-        | inr other ↦ are.before k (sym (get_or-set_other noted' place k false false other) ∙ h)
-      ];
-    }
-
 pub AreForgotten-all : (noted : List Bool) (places : List ℕ) (j : ℕ) (noted' : List Bool) → IsListOf noted places → length places ≤ j → AreForgotten noted places j noted' → (k : ℕ) → in_set noted' k ≡ false
 AreForgotten-all noted places j noted' list all are k = false_from_ne_true (in_set noted' k) still
   where
@@ -83,26 +67,3 @@ IsListOf-none noted none = record {
   apart = λ i j d before lt. absurd (omega (arith, lt));
   room = omega (arith, all_out noted none);
 }
-
--- ---- what was written in turn, and what is kept
-
-module _ {T : Type 0} where
-  pub AreNoted-none : (noted : List Bool) (xs : List T) → AreNoted noted xs noted xs
-  AreNoted-none noted xs = record { same_size = refl; same_length = refl; still = λ k h. h; elsewhere = λ k out d. refl }
-
-  pub AreNoted-trans : {noted noted' noted'' : List Bool} → {xs ys zs : List T} → AreNoted noted xs noted' ys → AreNoted noted' ys noted'' zs → AreNoted noted xs noted'' zs
-  AreNoted-trans {noted' = noted'} one two = record {
-    same_size = two.same_size ∙ one.same_size;
-    same_length = two.same_length ∙ one.same_length;
-    still = λ k h. two.still k (one.still k h);
-    elsewhere = λ k out d. two.elsewhere k out d ∙ one.elsewhere k (false_from_ne_true (in_set noted' k) (λ h. false≢true (sym out ∙ two.still k h))) d;
-  }
-
-  -- a place is written, and noted
-  pub AreNoted-set : (noted : List Bool) (xs : List T) (place : ℕ) (value : T) → place < length noted → AreNoted noted xs (slice_set noted place true) (slice_set xs place value)
-  AreNoted-set noted xs place value lt = record {
-    same_size = length-set noted place true;
-    same_length = length-set xs place value;
-    still = λ k h. still_noted noted place k lt h;
-    elsewhere = λ k out d. get_or-set_other xs place k value d (λ same. true≢false (sym (get_or-set_same noted place true false lt) ∙ (subst (λ (q : ℕ). in_set (slice_set noted place true) q ≡ false) same out)));
-  }

@@ -1,11 +1,11 @@
 -- Tables beside what was kept of them: what was written in turn, and what the noted places name.
 use Rattle.std.proofs.Common.{◌≡◌, ◌≢◌, ℕ, ◌+◌, ◌<◌, ◌≤◌, Bool, List, length, take, drop, refl, sym, ap, subst, ◌∙◌, inl, inr, arith, true}
 use Rattle.std.specs.Prelude.{◌⊎◌, Any, slice_set, slice_index_or}
-use Rattle.std.proofs.lemmas.Bool.{cases_eq, false≢true, false_from_ne_true}
+use Rattle.std.proofs.lemmas.Bool.{cases_eq}
 use Rattle.std.proofs.lemmas.Grind.{get_or_after_one}
 use Rattle.std.proofs.lemmas.List.{length-set, get_or-set_same, get_or-set_other, get_or-take, get_or_read, same_lists, length-take-le, length-drop}
 use Rattle.tracked.specs.Marks.{in_set}
-use Rattle.tracked.specs.Touched.{NameChanges, AgreeAt, AreNoted}
+use Rattle.tracked.specs.Touched.{NameChanges, AgreeAt}
 use Rattle.tracked.specs.Tracked.{IsTracked, IsWritten, TrackedView}
 use Rattle.tracked.proofs.TouchedLemmas.{noted_or_not}
 
@@ -42,18 +42,6 @@ module _ {T : Type 0} where
   }
 
   module _ (xs whole : List T) (size : ℕ) (marks : List Bool) (entries_room whole_room : ℕ) (tracked : IsTracked xs whole size marks entries_room whole_room) where
-    -- entries were written at noted places alone
-    pub IsTracked-noted : (ys : List T) (marks' : List Bool) (ys_room : ℕ) → entries_room ≤ ys_room → AreNoted marks xs marks' ys → IsTracked ys whole size marks' ys_room whole_room
-    IsTracked-noted ys marks' ys_room room noted = record {
-      same_length = tracked.same_length ∙ sym noted.same_length;
-      size_in = omega (arith, tracked.size_in, noted.same_length);
-      marked = omega (arith, tracked.marked, noted.same_length, noted.same_size);
-      few = omega (arith, tracked.few, noted.same_size);
-      entries_fit = omega (arith, tracked.entries_fit, noted.same_size, room);
-      whole_fit = omega (arith, tracked.whole_fit, noted.same_size);
-      elsewhere = λ k out d. noted.elsewhere k out d ∙ tracked.elsewhere k (false_from_ne_true (in_set marks k) (λ h. false≢true (sym out ∙ noted.still k h))) d;
-    }
-
     module _ (places : List ℕ) (listed : (k : ℕ) → in_set marks k ≡ true → Any (λ p. p ≡ k) places) where
       -- places that name all that is noted name each place at which the entries differ from the snapshot
       pub kept_named : NameChanges 0 places (take size whole) xs

@@ -7,13 +7,6 @@ module _ {T : Type 0} where
   abbrev pub AgreeAt : List T → List T → ℕ → Type 0
   AgreeAt xs ys k = (d : T) → slice_index_or ys k d ≡ slice_index_or xs k d
 
-  -- the table xs became ys, written at noted places alone; what was noted is so still
-  pub record AreNoted (noted : List Bool) (xs : List T) (noted' : List Bool) (ys : List T) : Type 0 where
-    pub same_size : length noted' ≡ length noted
-    pub same_length : length ys ≡ length xs
-    pub still : (k : ℕ) → in_set noted k ≡ true → in_set noted' k ≡ true
-    pub elsewhere : (k : ℕ) → in_set noted' k ≡ false → AgreeAt xs ys k
-
   -- the places name each one at which the lists differ, of those that the first list has; its first entry has place `first`
   abbrev pub NameChanges : ℕ → List ℕ → List T → List T → Type 0
   NameChanges first places xs ys = (k : ℕ) → k < length xs → Any (λ p. p ≡ k + first) places ⊎ AgreeAt xs ys k
