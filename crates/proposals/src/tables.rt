@@ -2,7 +2,7 @@
 
 ghost use Rattle.std.specs.Prelude.{◌≡◌, ◌<◌, ◌^◌, ◌*◌, IfOk, length};
 
-use crate::greatest::{Roots, solve_from};
+use crate::greatest::solve_from;
 use crate::search::Search;
 use crate::solving::solve;
 use crate::wanted::{FlowChange, Wanted};
@@ -12,7 +12,7 @@ use relaxation::{Proposal, Ring, Sets};
 use residual_ends::{Arc, ResidualEnds};
 use std::alloc::{AllocError, Global};
 use std::marker::Model;
-use two_sided::{Between, Readings};
+use two_sided::Between;
 
 /// What a proposal is to reach.
 #[derive(Clone, Copy, PartialEq, Eq)]
@@ -77,6 +77,7 @@ impl Model for Proposals {
     ghost invariant = { λ p. (p.ring ≡ p.proposal)
         × (p.sets.reach ≡ p.proposal)
         × (p.search ≡ p.proposal)
+        × (p.between ≡ p.proposal)
         × (p.proposal < 2 ^ 31) };
 }
 
@@ -144,9 +145,11 @@ impl Proposals {
         self.proposal.load_nodes(excess, potentials);
         load_arcs(&mut self.proposal, rows, flow);
         self.returned = None;
-        self.search.let_ascend();
+        self.search.may_ascend = true;
+        self.search.ascended = false;
         self.solve(rows, flow, excess, aim);
-        self.search.keep_to_ascents();
+        // Later searches are joined by ascents only if these were.
+        self.search.may_ascend = self.search.ascended;
     }
 
     /// Leads the proposal on towards the aim, and looks at all nodes for that.
@@ -155,7 +158,7 @@ impl Proposals {
         requires excess { length excess.now ≡ self.old }
         ensures { self.new ≡ self.old }
     {
-        self.search.begin_counting();
+        self.search.settled_nodes = 0;
         match aim {
             Aim::LeastCost => solve(
                 &mut self.proposal,
@@ -166,7 +169,7 @@ impl Proposals {
             ),
             Aim::GreatestFlow => self.solve_greatest(rows, flow),
         }
-        self.settled = self.search.settled_nodes() / (self.entries() as u64).max(1);
+        self.settled = self.search.settled_nodes / (self.entries() as u64).max(1);
     }
 
     /// Leads the proposal on to a greatest flow, while the return arc, which is the first one, is closed: what goes back over
@@ -183,10 +186,14 @@ impl Proposals {
             return;
         }
         let stands = flow_of(&self.proposal, 0, row, flow[0]);
-        let _closed = self.proposal.renew(0, &closed(row, stands));
-        let roots = Roots { source, sink };
+        let closed = Arc {
+            low: stands,
+            cap: stands,
+            ..arc_of(row, stands)
+        };
+        let _closed = self.proposal.ends.renew(0, &closed);
         let more = row.cap.saturating_sub(stands);
-        solve_from(&mut self.proposal, &mut self.search, roots, more);
+        solve_from(&mut self.proposal, &mut self.search, source, sink, more);
         let rest = self.proposal.rest(source);
         self.proposal.set_rest(source, 0);
         self.proposal.set_rest(sink, 0);
@@ -238,20 +245,16 @@ impl Proposals {
             || link.room::<false>() == 0 && stands > row.low
     }
 
-    /// Pushes by searches from both sides, where what these know is of the same nodes; says whether they came to an end.
+    /// Pushes by searches from both sides; says whether they came to an end.
     fn push_near(&mut self, aim: Aim) -> bool
         ensures { self.new ≡ self.old }
     {
-        if self.between.entries() != self.proposal.entries() {
-            return false;
-        }
         let settled = match aim {
             Aim::LeastCost => self.settled.max(self.entries() as u64 / NODES_A_READING),
             Aim::GreatestFlow => self.settled,
         };
-        let readings = Readings::beside(settled);
         self.between
-            .push_between(&mut self.proposal, &mut self.noted, readings)
+            .push_between(&mut self.proposal, &mut self.noted, settled)
     }
 
     /// Notes that these arcs may have got another row or another flow. If a proposal was adopted and they are many,
@@ -288,7 +291,7 @@ impl Proposals {
             return;
         }
         if self.returned.is_some() && !rows.is_empty() {
-            let _opened = self.proposal.renew(0, &Arc::new(&rows[0], flow[0]));
+            let _opened = self.proposal.ends.renew(0, &arc_of(&rows[0], flow[0]));
         }
         self.returned = None;
         for change in changes {
@@ -321,7 +324,7 @@ impl Proposals {
         if self.standing != Standing::Adopted {
             return;
         }
-        self.proposal.list_moved();
+        self.proposal.moved.open();
         self.standing = Standing::InStep;
         self.noted.open();
         self.follow(rows, flow, &[]);
@@ -330,7 +333,7 @@ impl Proposals {
                 self.noted.note(change.arc);
             }
         }
-        self.between.load(&mut self.proposal);
+        self.proposal.ends.put_in_order();
     }
 
     /// Brings an arc in step, and says whether it is: not where another arc has its number now.
@@ -342,14 +345,14 @@ impl Proposals {
         if k >= rows.len() || flow_of(&self.proposal, k, &rows[k], flow[k]) == flow[k] {
             return true;
         }
-        self.proposal.renew(k, &Arc::new(&rows[k], flow[k]))
+        self.proposal.ends.renew(k, &arc_of(&rows[k], flow[k]))
     }
 
     /// Notes that a node may have got another potential.
     pub fn note_node(&mut self, v: u32)
         ensures { self.new ≡ self.old }
     {
-        self.proposal.note_node(v);
+        self.proposal.moved.note(v);
     }
 
     /// Notes that all nodes may have got other potentials.
@@ -406,9 +409,9 @@ impl Proposals {
             && renew_all(&mut self.proposal, &self.noted, rows, flow);
         if !is_renewed {
             self.returned = None;
-            self.proposal.list_moved();
+            self.proposal.moved.open();
             load_arcs(&mut self.proposal, rows, flow);
-            self.between.load(&mut self.proposal);
+            self.proposal.ends.put_in_order();
             self.noted.open();
             self.standing = Standing::InStep;
             self.keeps_nodes = false;
@@ -416,19 +419,15 @@ impl Proposals {
         self.noted.clear();
     }
 
-    /// Takes over what a flow leaves at each node and potentials, and lists the nodes out of balance, where what searches from
-    /// both sides know is of the same nodes.
+    /// Takes over what a flow leaves at each node and potentials, and lists the nodes out of balance.
     pub fn take_over_nodes(&mut self, excess: &[i64], potentials: &[i64], unbalanced: &[u32])
         requires excess { length excess.now ≡ self.old }
         requires potentials { length potentials.now ≡ self.old }
         ensures { self.new ≡ self.old }
     {
-        let is_loaded = self.between.entries() == self.proposal.entries();
-        if !is_loaded || !self.keeps_nodes || self.proposal.moved().is_none() {
+        if !self.keeps_nodes || self.proposal.moved().is_none() {
             self.proposal.load_nodes(excess, potentials);
-            if is_loaded {
-                self.between.list_roots(&self.proposal);
-            }
+            self.between.list_roots(&self.proposal);
             return;
         }
         let (sources, sinks) = self.between.listed_roots();
@@ -439,22 +438,14 @@ impl Proposals {
         self.between.list_roots_among(&self.proposal, unbalanced);
     }
 
-    /// Whether the proposal keeps step but for arcs that were noted, or that are more or fewer now, and these are few, and what
-    /// searches from both sides know is of the same nodes.
+    /// Whether the proposal keeps step but for arcs that were noted, or that are more or fewer now, and these are few.
     fn keeps_step(&self, rows: &[ArcRow]) -> bool {
-        self.standing == Standing::InStep
-            && self.between.entries() == self.proposal.entries()
-            && self.noted.listed().len() <= rows.len() / FEWER
+        self.standing == Standing::InStep && self.noted.listed().len() <= rows.len() / FEWER
     }
 
     /// Whether arcs were noted, or there are more or fewer than the proposal has.
     pub fn lacks_arcs(&self, rows: &[ArcRow]) -> bool {
         !self.noted.listed().is_empty() || self.proposal.ends().entered() != rows.len()
-    }
-
-    /// Whether the proposal keeps step with these rows.
-    fn is_in_step(&self, rows: &[ArcRow]) -> bool {
-        self.standing == Standing::InStep && self.proposal.ends().entered() == rows.len()
     }
 
     /// Writes down which arcs are to have another flow, less than all where there is no room for them.
@@ -468,7 +459,9 @@ impl Proposals {
             }
             first = 1;
         }
-        let _whole = if self.is_in_step(rows) {
+        let is_in_step = self.standing == Standing::InStep
+            && self.proposal.ends().entered() == rows.len();
+        let _whole = if is_in_step {
             write_noted(wanted, &self.proposal, rows, flow, &self.noted)
         } else {
             write_flow(wanted, &self.proposal, rows, flow, first)
@@ -476,12 +469,23 @@ impl Proposals {
     }
 }
 
-/// An arc of such a row that carries so much and has no room.
-fn closed(row: &ArcRow, flow: i64) -> Arc {
+/// An arc of such a row, which carries such a flow.
+#[inline(always)]
+fn arc_of(row: &ArcRow, flow: i64) -> Arc {
     Arc {
-        low: flow,
-        cap: flow,
-        ..Arc::new(row, flow)
+        tail: row.tail,
+        head: row.head,
+        low: row.low,
+        cap: row.cap,
+        cost: row.cost,
+        flow,
+    }
+}
+
+/// Notes each of these arcs.
+fn note_each(noted: &mut Noted, places: &[u32]) {
+    for k in places {
+        noted.note(*k);
     }
 }
 
@@ -491,13 +495,16 @@ fn load_arcs(proposal: &mut Proposal, rows: &[ArcRow], flow: &[i64])
     requires { length flow.now ≡ length rows.now }
     ensures { proposal.new ≡ proposal.old }
 {
-    proposal.load_arcs(rows, flow);
-}
-
-/// Notes each of these arcs.
-fn note_each(noted: &mut Noted, places: &[u32]) {
-    for k in places {
-        noted.note(*k);
+    proposal.ends.begin(rows.len());
+    for row in rows {
+        proposal.ends.count_end(row.tail as usize);
+        proposal.ends.count_end(row.head as usize);
+    }
+    proposal.ends.make_room();
+    let arcs = proposal.ends.entered().min(rows.len());
+    for j in 0..arcs {
+        let k = arcs - 1 - j;
+        proposal.ends.enter(k, &arc_of(&rows[k], flow[k]));
     }
 }
 
@@ -510,12 +517,12 @@ fn renew_all(proposal: &mut Proposal, noted: &Noted, rows: &[ArcRow], flow: &[i6
 {
     let before = proposal.ends().entered();
     for k in rows.len()..before {
-        proposal.take_out(k);
+        proposal.ends.take_out(k);
     }
     let mut left = rows.len();
     for k in before..rows.len() {
-        let arc = Arc::new(&rows[k], flow[k]);
-        if !proposal.add(k, &arc, &mut left) {
+        let arc = arc_of(&rows[k], flow[k]);
+        if !proposal.ends.add(k, &arc, &mut left) {
             return false;
         }
     }
@@ -524,13 +531,13 @@ fn renew_all(proposal: &mut Proposal, noted: &Noted, rows: &[ArcRow], flow: &[i6
         if k >= before.min(rows.len()) {
             continue;
         }
-        let arc = Arc::new(&rows[k], flow[k]);
-        if proposal.renew(k, &arc) {
+        let arc = arc_of(&rows[k], flow[k]);
+        if proposal.ends.renew(k, &arc) {
             continue;
         }
         // Another arc was in its place.
-        proposal.take_out(k);
-        if !proposal.add(k, &arc, &mut left) {
+        proposal.ends.take_out(k);
+        if !proposal.ends.add(k, &arc, &mut left) {
             return false;
         }
     }
@@ -592,7 +599,8 @@ fn write_flow(
 /// The flow that is wanted of an arc that has this flow.
 fn flow_of(proposal: &Proposal, k: usize, row: &ArcRow, flow: i64) -> i64 {
     if row.low <= row.cap {
-        proposal.wanted(k, &Arc::new(row, flow))
+        let stands = proposal.ends().flow_of(k, &arc_of(row, flow));
+        stands.clamp(row.low, row.cap)
     } else {
         row.low
     }
