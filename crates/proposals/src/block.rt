@@ -1,9 +1,11 @@
 //! As many pushes along tight paths as there are after a search.
 
-ghost use Rattle.std.specs.Prelude.{◌≡◌, ◌<◌, IfSome};
+ghost use Rattle.std.specs.Prelude.{◌≡◌, ◌<◌, IfSome, length};
 
 use crate::look::Incoming;
+use crate::record::NodeRecord;
 use crate::search::Search;
+use containers::Nodes;
 use relaxation::{Proposal, seen};
 use two_sided::{NO_PLACE, State};
 
@@ -55,7 +57,7 @@ impl Search {
         ensures kept { self.new ≡ self.old }
         ensures proposal { proposal.new ≡ proposal.old }
     {
-        self.begin_walks();
+        begin_walks(&mut self.records, self.frontier.settled());
         let mut left = self.goals;
         for k in 0..self.entries() {
             let Some(t) = self.frontier.settled().at(k) else {
@@ -69,27 +71,6 @@ impl Search {
                 return;
             }
         }
-    }
-
-    /// Lets walks begin anew at the nodes that were settled.
-    fn begin_walks(&mut self)
-        ensures { self.new ≡ self.old }
-    {
-        for k in 0..self.entries() {
-            let Some(v) = self.frontier.settled().at(k) else {
-                return;
-            };
-            self.begin_walks_at(v);
-        }
-    }
-
-    /// Lets walks begin anew at a node.
-    fn begin_walks_at(&mut self, v: usize)
-        requires { v < self.old }
-        ensures { self.new ≡ self.old }
-    {
-        self.records[v].current = 0;
-        self.records[v].renewed = 0;
     }
 
     /// Lowers the potentials of the nodes that were settled by the same amount.
@@ -251,6 +232,18 @@ enum Leaving {
     All,
     /// The first one that is filled, and those behind it.
     Filled,
+}
+
+/// Lets walks begin anew at these nodes.
+fn begin_walks(records: &mut [NodeRecord], settled: &Nodes)
+    requires { settled.now ≡ length records.old }
+    ensures { length records.new ≡ length records.old }
+{
+    for v in settled.listed() {
+        let v = *v as usize;
+        records[v].current = 0;
+        records[v].renewed = 0;
+    }
 }
 
 /// The most steps of the walks to one node, for each end of an arc. Where paths are long and each has its own end, walks from

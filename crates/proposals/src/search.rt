@@ -50,7 +50,7 @@ pub struct Search {
     pub(crate) goals: usize,
     got: usize,
     /// How many nodes were settled since counting began.
-    pub(crate) settled_nodes: u64,
+    settled_nodes: u64,
     /// Whether ascents may join searches, and whether they did.
     pub(crate) may_ascend: bool,
     pub(crate) ascended: bool,
@@ -112,6 +112,33 @@ impl Search {
             looks: 0,
             pushes: 0,
         })
+    }
+
+    /// Counts settled nodes from 0 again.
+    pub fn begin_counting(&mut self)
+        ensures { self.new ≡ self.old }
+    {
+        self.settled_nodes = 0;
+    }
+
+    /// How many nodes were settled since counting began.
+    pub fn settled_nodes(&self) -> u64 {
+        self.settled_nodes
+    }
+
+    /// Lets ascents join searches.
+    pub fn let_ascend(&mut self)
+        ensures { self.new ≡ self.old }
+    {
+        self.may_ascend = true;
+        self.ascended = false;
+    }
+
+    /// Lets ascents join later searches only if they joined those so far.
+    pub fn keep_to_ascents(&mut self)
+        ensures { self.new ≡ self.old }
+    {
+        self.may_ascend = self.ascended;
     }
 
     /// How many nodes the last search settled.

@@ -143,13 +143,11 @@ impl Proposals {
     {
         self.standing = Standing::Apart;
         self.proposal.load_nodes(excess, potentials);
-        load_arcs(&mut self.proposal, rows, flow);
+        load_arcs(&mut self.proposal.ends, rows, flow);
         self.returned = None;
-        self.search.may_ascend = true;
-        self.search.ascended = false;
+        self.search.let_ascend();
         self.solve(rows, flow, excess, aim);
-        // Later searches are joined by ascents only if these were.
-        self.search.may_ascend = self.search.ascended;
+        self.search.keep_to_ascents();
     }
 
     /// Leads the proposal on towards the aim, and looks at all nodes for that.
@@ -158,7 +156,7 @@ impl Proposals {
         requires excess { length excess.now ≡ self.old }
         ensures { self.new ≡ self.old }
     {
-        self.search.settled_nodes = 0;
+        self.search.begin_counting();
         match aim {
             Aim::LeastCost => solve(
                 &mut self.proposal,
@@ -169,7 +167,7 @@ impl Proposals {
             ),
             Aim::GreatestFlow => self.solve_greatest(rows, flow),
         }
-        self.settled = self.search.settled_nodes / (self.entries() as u64).max(1);
+        self.settled = self.search.settled_nodes() / (self.entries() as u64).max(1);
     }
 
     /// Leads the proposal on to a greatest flow, while the return arc, which is the first one, is closed: what goes back over
@@ -287,7 +285,7 @@ impl Proposals {
     {
         if self.standing == Standing::Fresh {
             // What is wanted is not of this proposal: all arcs are taken over.
-            load_arcs(&mut self.proposal, rows, flow);
+            load_arcs(&mut self.proposal.ends, rows, flow);
             return;
         }
         if self.returned.is_some() && !rows.is_empty() {
@@ -406,11 +404,11 @@ impl Proposals {
         ensures { self.new ≡ self.old }
     {
         let is_renewed = self.keeps_step(rows)
-            && renew_all(&mut self.proposal, &self.noted, rows, flow);
+            && renew_all(&mut self.proposal.ends, &self.noted, rows, flow);
         if !is_renewed {
             self.returned = None;
             self.proposal.moved.open();
-            load_arcs(&mut self.proposal, rows, flow);
+            load_arcs(&mut self.proposal.ends, rows, flow);
             self.proposal.ends.put_in_order();
             self.noted.open();
             self.standing = Standing::InStep;
@@ -491,38 +489,38 @@ fn note_each(noted: &mut Noted, places: &[u32]) {
 
 /// Takes over the rows and the flow of the arcs.
 #[inline(never)] // a name of its own in the program: `bench/count` counts its calls
-fn load_arcs(proposal: &mut Proposal, rows: &[ArcRow], flow: &[i64])
+fn load_arcs(ends: &mut ResidualEnds, rows: &[ArcRow], flow: &[i64])
     requires { length flow.now ≡ length rows.now }
-    ensures { proposal.new ≡ proposal.old }
+    ensures { ends.new ≡ ends.old }
 {
-    proposal.ends.begin(rows.len());
+    ends.begin(rows.len());
     for row in rows {
-        proposal.ends.count_end(row.tail as usize);
-        proposal.ends.count_end(row.head as usize);
+        ends.count_end(row.tail as usize);
+        ends.count_end(row.head as usize);
     }
-    proposal.ends.make_room();
-    let arcs = proposal.ends.entered().min(rows.len());
+    ends.make_room();
+    let arcs = ends.entered().min(rows.len());
     for j in 0..arcs {
         let k = arcs - 1 - j;
-        proposal.ends.enter(k, &arc_of(&rows[k], flow[k]));
+        ends.enter(k, &arc_of(&rows[k], flow[k]));
     }
 }
 
 /// Takes over the rows and the flow of the arcs that are noted, that were added or that are gone; says whether it could. It gives
 /// up where the links of as many nodes would move as there are arcs: to enter all arcs anew is quicker then, and leaves free
 /// places where they were used up.
-fn renew_all(proposal: &mut Proposal, noted: &Noted, rows: &[ArcRow], flow: &[i64]) -> bool
+fn renew_all(ends: &mut ResidualEnds, noted: &Noted, rows: &[ArcRow], flow: &[i64]) -> bool
     requires { length flow.now ≡ length rows.now }
-    ensures { proposal.new ≡ proposal.old }
+    ensures { ends.new ≡ ends.old }
 {
-    let before = proposal.ends().entered();
+    let before = ends.entered();
     for k in rows.len()..before {
-        proposal.ends.take_out(k);
+        ends.take_out(k);
     }
     let mut left = rows.len();
     for k in before..rows.len() {
         let arc = arc_of(&rows[k], flow[k]);
-        if !proposal.ends.add(k, &arc, &mut left) {
+        if !ends.add(k, &arc, &mut left) {
             return false;
         }
     }
@@ -532,12 +530,12 @@ fn renew_all(proposal: &mut Proposal, noted: &Noted, rows: &[ArcRow], flow: &[i6
             continue;
         }
         let arc = arc_of(&rows[k], flow[k]);
-        if proposal.ends.renew(k, &arc) {
+        if ends.renew(k, &arc) {
             continue;
         }
         // Another arc was in its place.
-        proposal.ends.take_out(k);
-        if !proposal.ends.add(k, &arc, &mut left) {
+        ends.take_out(k);
+        if !ends.add(k, &arc, &mut left) {
             return false;
         }
     }
