@@ -87,7 +87,7 @@ impl Search {
             vec![in alloc; NodeRecord::NEW; entries],
             vec![in alloc; FAR; entries],
         );
-        let lists = both(Frontier::new(alloc, entries), Nodes::new(alloc, entries));
+        let lists = both(Frontier::opened(alloc, entries), Nodes::new(alloc, entries));
         let walks = both(vec![in alloc; 0; entries], Walk::new(alloc, entries));
         let ((records, reaches), ((frontier, order), (apart, walk))) = both(
             known,

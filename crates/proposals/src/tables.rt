@@ -77,7 +77,6 @@ impl Model for Proposals {
     ghost invariant = { λ p. (p.ring ≡ p.proposal)
         × (p.sets.reach ≡ p.proposal)
         × (p.search ≡ p.proposal)
-        × (p.between ≡ p.proposal)
         × (p.proposal < 2 ^ 31) };
 }
 
@@ -243,10 +242,13 @@ impl Proposals {
             || link.room::<false>() == 0 && stands > row.low
     }
 
-    /// Pushes by searches from both sides; says whether they came to an end.
+    /// Pushes by searches from both sides, where what these know is of the same nodes; says whether they came to an end.
     fn push_near(&mut self, aim: Aim) -> bool
         ensures { self.new ≡ self.old }
     {
+        if self.between.entries() != self.proposal.entries() {
+            return false;
+        }
         let settled = match aim {
             Aim::LeastCost => self.settled.max(self.entries() as u64 / NODES_A_READING),
             Aim::GreatestFlow => self.settled,
@@ -331,6 +333,15 @@ impl Proposals {
                 self.noted.note(change.arc);
             }
         }
+        self.load_between();
+    }
+
+    /// Gets ready for searches from both sides.
+    fn load_between(&mut self)
+        ensures { self.new ≡ self.old }
+    {
+        let entries = self.entries();
+        self.between.load(entries);
         self.proposal.ends.put_in_order();
     }
 
@@ -409,7 +420,7 @@ impl Proposals {
             self.returned = None;
             self.proposal.moved.open();
             load_arcs(&mut self.proposal.ends, rows, flow);
-            self.proposal.ends.put_in_order();
+            self.load_between();
             self.noted.open();
             self.standing = Standing::InStep;
             self.keeps_nodes = false;
@@ -417,15 +428,19 @@ impl Proposals {
         self.noted.clear();
     }
 
-    /// Takes over what a flow leaves at each node and potentials, and lists the nodes out of balance.
+    /// Takes over what a flow leaves at each node and potentials, and lists the nodes out of balance, where what searches from
+    /// both sides know is of the same nodes.
     pub fn take_over_nodes(&mut self, excess: &[i64], potentials: &[i64], unbalanced: &[u32])
         requires excess { length excess.now ≡ self.old }
         requires potentials { length potentials.now ≡ self.old }
         ensures { self.new ≡ self.old }
     {
-        if !self.keeps_nodes || self.proposal.moved().is_none() {
+        let is_loaded = self.between.entries() == self.proposal.entries();
+        if !is_loaded || !self.keeps_nodes || self.proposal.moved().is_none() {
             self.proposal.load_nodes(excess, potentials);
-            self.between.list_roots(&self.proposal);
+            if is_loaded {
+                self.between.list_roots(&self.proposal);
+            }
             return;
         }
         let (sources, sinks) = self.between.listed_roots();
@@ -436,9 +451,12 @@ impl Proposals {
         self.between.list_roots_among(&self.proposal, unbalanced);
     }
 
-    /// Whether the proposal keeps step but for arcs that were noted, or that are more or fewer now, and these are few.
+    /// Whether the proposal keeps step but for arcs that were noted, or that are more or fewer now, and these are few, and what
+    /// searches from both sides know is of the same nodes.
     fn keeps_step(&self, rows: &[ArcRow]) -> bool {
-        self.standing == Standing::InStep && self.noted.listed().len() <= rows.len() / FEWER
+        self.standing == Standing::InStep
+            && self.between.entries() == self.proposal.entries()
+            && self.noted.listed().len() <= rows.len() / FEWER
     }
 
     /// Whether arcs were noted, or there are more or fewer than the proposal has.

@@ -1,6 +1,6 @@
 //! Pushes along shortest paths that a search from both sides at once finds, for few nodes out of balance.
 
-ghost use Rattle.std.specs.Prelude.{◌≡◌, ◌<◌, ◌^◌, IfOk, IfSome, length};
+ghost use Rattle.std.specs.Prelude.{◌≡◌, ◌<◌, ◌^◌, IfSome, IsTrue, length};
 
 use crate::front::{Front, Meeting};
 use crate::length::FAR;
@@ -27,7 +27,7 @@ const READS_OF_ARC: u64 = 8;
 const MANY: usize = 16;
 
 /// A search from nodes in excess and from nodes in deficit at once, and the path that it finds. It is seen as the number
-/// of entries that a table of nodes has.
+/// of entries that a table of nodes has: 0 before the first load, so that a run without one does not touch its room.
 #[derive(Drop)]
 pub struct Between {
     ahead: Front,
@@ -56,16 +56,18 @@ impl Model for Between {
 }
 
 impl Between {
-    /// Tables for a search among so many entries of nodes.
+    /// Room for a search among so many entries of nodes, of which nothing is loaded.
     ///
     /// # Errors
     /// Memory for a table was refused.
     pub fn new(alloc: Global, entries: usize) -> Result<Between, AllocError>
         requires { entries < 2 ^ 31 }
-        ensures { IfOk result (λ b. b ≡ entries) }
     {
         let fronts = both(Front::new(alloc, entries), Front::new(alloc, entries));
-        let roots = both(Nodes::new(alloc, entries), Nodes::new(alloc, entries));
+        let roots = both(
+            Nodes::reserve(alloc, entries),
+            Nodes::reserve(alloc, entries),
+        );
         let paths = both(Places::new(alloc, entries), Places::new(alloc, entries));
         let arcs = Places::new(alloc, entries);
         let (((ahead, behind), (sources, sinks)), ((path_ahead, path_behind), arcs)) = both(
@@ -81,6 +83,39 @@ impl Between {
             path_behind,
             arcs,
         })
+    }
+
+    /// The number of entries of a table of nodes.
+    pub fn entries(&self) -> usize
+        ensures { result ≡ self.now }
+    {
+        self.ahead.entries()
+    }
+
+    /// Gets ready for searches among so many entries of nodes, if there is room for them.
+    pub fn load(&mut self, entries: usize)
+        requires { entries < 2 ^ 31 }
+    {
+        if self.entries() != entries {
+            let _opened = self.open(entries);
+        }
+    }
+
+    /// Makes tables of so many entries of nodes in the room that there is, and says whether it is enough.
+    fn open(&mut self, entries: usize) -> bool
+        requires { entries < 2 ^ 31 }
+        ensures { IsTrue result → self.new ≡ entries }
+    {
+        if self.ahead.open(entries) && self.behind.open(entries) {
+            self.sources.begin(entries);
+            self.sinks.begin(entries);
+            return true;
+        }
+        self.ahead.close();
+        self.behind.close();
+        self.sources.begin(0);
+        self.sinks.begin(0);
+        false
     }
 
     /// Pushes along shortest paths until one side is empty or the sides do not meet, or else until too much was read; says

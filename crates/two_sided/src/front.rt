@@ -1,6 +1,6 @@
 //! One side of a search that goes from both sides at once.
 
-ghost use Rattle.std.specs.Prelude.{◌≡◌, ◌<◌, ◌^◌, ℕ, IfOk, IfSome, length, pos, ◌≤ℤ◌};
+ghost use Rattle.std.specs.Prelude.{◌≡◌, ◌<◌, ◌^◌, ℕ, IfOk, IfSome, IsTrue, length, pos, ◌≤ℤ◌};
 ghost use Rattle.relaxation.specs.Limits.{IsWithin, rest_limit};
 ghost use Rattle.two_sided.specs.Keys.{key_limit};
 
@@ -132,20 +132,22 @@ impl Model for Front {
 }
 
 impl Front {
-    /// Tables for a search among so many entries of nodes.
+    /// Room for a search among so many entries of nodes: it is opened before it is used, and its room is not touched.
     ///
     /// # Errors
     /// Memory for a table was refused.
     pub fn new(alloc: Global, entries: usize) -> Result<Front, AllocError>
-        requires { entries < 2 ^ 31 }
-        ensures { IfOk result (λ f. f ≡ entries) }
+        ensures { IfOk result (λ f. f ≡ 0) }
     {
         let labels = both(
-            vec![in alloc; Label::NONE; entries],
+            Vec::with_capacity(alloc, entries),
             Frontier::new(alloc, entries),
         );
-        let margins = both(vec![in alloc; 0; entries], Nodes::new(alloc, entries));
-        let late = Heap::opened(alloc, entries);
+        let margins = both(
+            Vec::with_capacity(alloc, entries),
+            Nodes::reserve(alloc, entries),
+        );
+        let late = Heap::new(alloc, entries);
         let ((labels, frontier), ((beyond, margins), late)) = both(labels, both(margins, late))?;
         Ok(Front {
             labels,
@@ -162,6 +164,42 @@ impl Front {
             reads: 0,
             walked: 0,
         })
+    }
+
+    /// Makes tables of so many entries of nodes in the room that there is, and says whether it is enough: then no search
+    /// is begun.
+    pub fn open(&mut self, entries: usize) -> bool
+        requires { entries < 2 ^ 31 }
+        ensures { IsTrue result → self.new ≡ entries }
+    {
+        if entries > self.labels.capacity() || entries > self.beyond.capacity() {
+            return false;
+        }
+        if !self.frontier.open(entries) || !self.late.open(entries) {
+            self.labels.clear();
+            self.frontier.close();
+            self.beyond.clear();
+            self.margins.begin(0);
+            self.late.close();
+            return false;
+        }
+        self.labels.clear();
+        self.beyond.clear();
+        let _filled = self.labels.resize(entries, Label::NONE);
+        let _filled = self.beyond.resize(entries, 0);
+        self.margins.begin(entries);
+        true
+    }
+
+    /// Makes the tables empty.
+    pub fn close(&mut self)
+        ensures { self.new ≡ 0 }
+    {
+        self.labels.clear();
+        self.frontier.close();
+        self.beyond.clear();
+        self.margins.begin(0);
+        self.late.close();
     }
 
     /// The number of entries of a table of nodes.

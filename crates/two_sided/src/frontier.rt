@@ -1,6 +1,6 @@
 //! How far a search has come: the nodes that wait, nearest first, and those that are settled.
 
-ghost use Rattle.std.specs.Prelude.{◌≡◌, ◌<◌, ◌^◌, ℕ, IfOk, IfSome, length};
+ghost use Rattle.std.specs.Prelude.{◌≡◌, ◌<◌, ◌^◌, ℕ, IfOk, IfSome, IsTrue, length};
 
 use containers::{Heap, Nodes, both};
 use std::alloc::{AllocError, Global};
@@ -46,22 +46,74 @@ impl Model for Frontier {
 }
 
 impl Frontier {
-    /// Tables of so many entries of nodes, of which no search is begun.
+    /// Room for so many entries of nodes: it is opened before it is used, and its room is not touched.
     ///
     /// # Errors
     /// Memory for a table was refused.
     pub fn new(alloc: Global, entries: usize) -> Result<Frontier, AllocError>
-        requires { entries < 2 ^ 31 }
-        ensures { IfOk result (λ f. f ≡ entries) }
+        ensures { IfOk result (λ f. f ≡ 0) }
     {
-        let states = vec![in alloc; State::New; entries];
-        let lists = both(Heap::opened(alloc, entries), Nodes::new(alloc, entries));
+        let states = Vec::with_capacity(alloc, entries);
+        let lists = both(Heap::new(alloc, entries), Nodes::reserve(alloc, entries));
         let (states, (heap, settled)) = both(states, lists)?;
         Ok(Frontier {
             states,
             heap,
             settled,
         })
+    }
+
+    /// Tables of so many entries of nodes, which are open.
+    ///
+    /// # Errors
+    /// Memory for a table was refused.
+    pub fn opened(alloc: Global, entries: usize) -> Result<Frontier, AllocError>
+        requires { entries < 2 ^ 31 }
+        ensures { IfOk result (λ f. f ≡ entries) }
+    {
+        let mut frontier = Frontier::new(alloc, entries)?;
+        if !frontier.open(entries) {
+            return Err(AllocError);
+        }
+        Ok(frontier)
+    }
+
+    /// Makes tables of so many entries of nodes in the room that there is, and says whether it is enough: then no search
+    /// is begun.
+    pub fn open(&mut self, entries: usize) -> bool
+        requires { entries < 2 ^ 31 }
+        ensures { IsTrue result → self.new ≡ entries }
+    {
+        if entries > self.states.capacity() {
+            return false;
+        }
+        if !self.heap.open(entries) {
+            self.states.clear();
+            self.heap.close();
+            self.settled.begin(0);
+            return false;
+        }
+        self.states.clear();
+        let _filled = self.states.resize(entries, State::New);
+        self.settled.begin(entries);
+        true
+    }
+
+    /// Makes the tables empty.
+    pub fn close(&mut self)
+        ensures { self.new ≡ 0 }
+    {
+        self.states.clear();
+        self.heap.close();
+        self.settled.begin(0);
+    }
+
+    /// The number of entries of a table of nodes.
+    #[inline(always)]
+    pub fn entries(&self) -> usize
+        ensures { result ≡ self.now }
+    {
+        self.states.len()
     }
 
     /// Forgets all paths.
