@@ -3,11 +3,11 @@
 ghost use Rattle.std.specs.Prelude.{◌≡◌, ◌<◌, IfSome, length};
 
 use crate::look::Incoming;
-use crate::records::Records;
+use crate::record::NodeRecord;
 use crate::search::Search;
 use containers::Nodes;
 use relaxation::{Proposal, seen};
-use two_sided::State;
+use two_sided::{NO_PLACE, State};
 
 impl Search {
     /// Lowers the potentials of the nodes that were settled, so that the paths to them are tight, and pushes from nodes in
@@ -17,8 +17,24 @@ impl Search {
         ensures kept { self.new ≡ self.old }
         ensures proposal { proposal.new ≡ proposal.old }
     {
-        tighten_all::<AHEAD>(&self.records, self.frontier.settled(), proposal, length);
+        self.tighten::<AHEAD>(proposal, length);
         self.serve_all::<AHEAD>(proposal, renewals);
+    }
+
+    /// Lowers the potentials of the nodes that were settled, so that the paths to them are tight.
+    fn tighten<const AHEAD: bool>(&self, proposal: &mut Proposal, length: i64)
+        requires { proposal.old ≡ self.now }
+        ensures { proposal.new ≡ proposal.old }
+    {
+        for v in self.frontier.settled().listed() {
+            let v = *v as usize;
+            let potential = seen::<AHEAD>(proposal.potential(v));
+            let key = self.reaches[v].wrapping_sub(potential); // far within the range, and so is the shift
+            let shift = length.wrapping_sub(key);
+            if shift > 0 {
+                let _lowered = proposal.lower::<AHEAD>(v, shift);
+            }
+        }
     }
 
     /// Pushes on from nodes in excess to those in deficit that were settled, along any tight arcs. Where each path is longer
@@ -41,7 +57,7 @@ impl Search {
         ensures kept { self.new ≡ self.old }
         ensures proposal { proposal.new ≡ proposal.old }
     {
-        begin_walks_at(&mut self.records, self.frontier.settled());
+        begin_walks(&mut self.records, self.frontier.settled());
         let mut left = self.goals;
         for k in 0..self.entries() {
             let Some(t) = self.frontier.settled().at(k) else {
@@ -77,7 +93,7 @@ impl Search {
         self.walk.clear();
         self.frontier.set_state(t, State::Walked);
         let mut u = t;
-        for _ in 0..fuel(proposal) {
+        for _ in 0..STEPS.saturating_mul(proposal.ends().count() as u64) {
             let next = if proposal.is_root::<AHEAD>(u) {
                 self.push::<AHEAD>(proposal, t, u)
             } else if let Some(step) = self.step_back::<AHEAD>(proposal, u) {
@@ -126,7 +142,7 @@ impl Search {
         }
         match before {
             Some(v) => {
-                self.records.drop_parent(v);
+                self.records[v].parent = NO_PLACE;
                 Some(v)
             }
             None if renewed => Some(u),
@@ -219,42 +235,17 @@ enum Leaving {
 }
 
 /// Lets walks begin anew at these nodes.
-fn begin_walks_at(records: &mut Records, settled: &Nodes)
-    requires { settled.now ≡ records.old }
-    ensures { records.new ≡ records.old }
-{
-    for v in settled.listed() {
-        records.begin_walks(*v as usize);
-    }
-}
-
-/// Lowers the potentials of these nodes so that the paths to them are tight.
-fn tighten_all<const AHEAD: bool>(
-    records: &Records,
-    settled: &Nodes,
-    proposal: &mut Proposal,
-    length: i64,
-)
-    requires settled { settled.now ≡ records.now }
-    requires proposal { proposal.old ≡ records.now }
-    ensures { proposal.new ≡ proposal.old }
+fn begin_walks(records: &mut [NodeRecord], settled: &Nodes)
+    requires { settled.now ≡ length records.old }
+    ensures { length records.new ≡ length records.old }
 {
     for v in settled.listed() {
         let v = *v as usize;
-        let potential = seen::<AHEAD>(proposal.potential(v));
-        let key = records.reach(v).wrapping_sub(potential); // far within the range, and so is the shift
-        let shift = length.wrapping_sub(key);
-        if shift > 0 {
-            let _lowered = proposal.lower::<AHEAD>(v, shift);
-        }
+        records[v].current = 0;
+        records[v].renewed = 0;
     }
 }
 
 /// The most steps of the walks to one node, for each end of an arc. Where paths are long and each has its own end, walks from
 /// the other side take few steps. 8 and 32 were as quick, and what is filled on the way mostly ends a walk sooner.
 const STEPS: u64 = 16;
-
-/// How many steps the walks to one node may take.
-fn fuel(proposal: &Proposal) -> u64 {
-    STEPS.saturating_mul(proposal.ends().count() as u64)
-}

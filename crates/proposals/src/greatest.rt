@@ -3,7 +3,7 @@
 ghost use Rattle.std.specs.Prelude.{◌≡◌, ◌<◌};
 
 use crate::search::Search;
-use crate::solving::{Fuel, Goals, solve_greatest, take_turns};
+use crate::solving::{Fuel, Goals, MOST_PAIRS, solve_greatest, take_turns};
 use relaxation::{Proposal, REST_LIMIT, seen};
 
 /// More than ever lies at a node.
@@ -25,54 +25,30 @@ const HOME: Fuel = Fuel {
 /// graphs took twice as long, with 4 those in stairs did.
 const SOME_PAIRS: usize = 1;
 
-/// The two nodes that a return arc joins.
-#[derive(Clone, Copy)]
-pub struct Roots {
-    pub source: usize,
-    pub sink: usize,
-}
-
 /// Brings a flow that has no return arc to a greatest one. The return arc is held to carry so much more than it does: that lies
 /// at the source, and is lacking at the sink, and what cannot pass stays there. First what other nodes have too much goes where
 /// some lack it or back to the source, and what they lack comes from the sink: so the rest is as at a first solve, and as quick.
-pub fn solve_from(proposal: &mut Proposal, search: &mut Search, roots: Roots, more: i64)
+pub fn solve_from(
+    proposal: &mut Proposal,
+    search: &mut Search,
+    source: usize,
+    sink: usize,
+    more: i64,
+)
     requires search { search.old ≡ proposal.old }
-    requires source { roots.source < proposal.old }
-    requires sink { roots.sink < proposal.old }
+    requires source { source < proposal.old }
+    requires sink { sink < proposal.old }
     ensures proposal { proposal.new ≡ proposal.old }
     ensures search { search.new ≡ search.old }
 {
     // No arc has a cost: so each residual arc is tight.
-    level_potentials(proposal);
+    proposal.level();
     let _done = take_turns(proposal, search, &mut Goals::ALL, SOME_PAIRS, TOGETHER);
-    bring_home::<true>(proposal, search, roots.source, roots.sink);
-    bring_home::<false>(proposal, search, roots.sink, roots.source);
-    add_rest(proposal, roots.source, more);
-    add_rest(proposal, roots.sink, more.saturating_neg());
+    bring_home::<true>(proposal, search, source, sink);
+    bring_home::<false>(proposal, search, sink, source);
+    proposal.add_rest(source, more);
+    proposal.add_rest(sink, more.saturating_neg());
     solve_greatest(proposal, search);
-}
-
-/// Makes all potentials 0.
-pub fn level_potentials(proposal: &mut Proposal)
-    ensures { proposal.new ≡ proposal.old }
-{
-    for v in 0..proposal.entries() {
-        let potential = proposal.potential(v);
-        if potential > 0 {
-            let _lowered = proposal.lower::<true>(v, potential);
-        } else if potential < 0 {
-            let _raised = proposal.lower::<false>(v, potential.saturating_neg());
-        }
-    }
-}
-
-/// Adds to what lies at a node.
-fn add_rest(proposal: &mut Proposal, v: usize, more: i64)
-    requires { v < proposal.old }
-    ensures { proposal.new ≡ proposal.old }
-{
-    let rest = proposal.rest(v).saturating_add(more);
-    proposal.set_rest(v, rest.clamp(-REST_LIMIT, REST_LIMIT));
 }
 
 /// Moves what lies in excess, as a side sees it, to the root of that side. What lies at the two roots is kept apart meanwhile.
@@ -93,9 +69,9 @@ fn bring_home<const AHEAD: bool>(
     let lack = seen::<AHEAD>(-PLENTY);
     proposal.set_rest(other, 0);
     proposal.set_rest(root, lack);
-    let _done = take_turns(proposal, search, &mut Goals::ALL, HOME.pairs, HOME);
+    let _done = take_turns(proposal, search, &mut Goals::ALL, MOST_PAIRS, HOME);
     let brought = proposal.rest(root).saturating_sub(lack);
     proposal.set_rest(root, at_root);
     proposal.set_rest(other, at_other);
-    add_rest(proposal, root, brought);
+    proposal.add_rest(root, brought);
 }

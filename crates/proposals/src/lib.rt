@@ -15,7 +15,6 @@ mod greatest;
 mod home;
 mod look;
 mod record;
-mod records;
 mod scaling;
 mod search;
 mod solving;

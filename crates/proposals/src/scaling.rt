@@ -38,45 +38,59 @@ pub fn scale(proposal: &mut Proposal, search: &mut Search, fuel: Fuel)
     begin_stage(proposal, 1);
 }
 
-/// The room that an arc needs in the first stage: 1 where no stages are worth while.
+/// The room that an arc needs in the first stage: 1 where no stages are worth while. Then enough of what is out of balance lies
+/// at nodes where it is so much, and few enough residual arcs have less room.
 pub fn first_least(proposal: &Proposal) -> u32 {
+    let rooms = rooms_by_size(proposal);
+    let rests = rests_by_size(proposal);
+    let mut closed: u64 = 0;
+    let mut held = rests[0];
     let mut least: u32 = 1;
-    for _ in 1..STAGES {
-        let next = least.saturating_mul(2);
-        if !holds_enough(proposal, i64::from(next)) || !leaves_open(proposal, i64::from(next)) {
+    for size in 1..STAGES {
+        closed = closed.saturating_add(rooms[size]);
+        held = held.saturating_sub(rests[size]);
+        if held.saturating_mul(100) < rests[0].saturating_mul(HELD_PERCENT)
+            || closed.saturating_mul(100) > rooms[0].saturating_mul(CLOSED_PERCENT)
+        {
             break;
         }
-        least = next;
+        least = least.saturating_mul(2);
     }
     least
 }
 
-/// Whether enough of what is out of balance lies at nodes where it is so much.
-fn holds_enough(proposal: &Proposal, least: i64) -> bool {
-    let mut all: u64 = 0;
-    let mut held: u64 = 0;
-    for rest in proposal.rests() {
-        let amount = rest.unsigned_abs();
-        all = all.saturating_add(amount);
-        if amount >= least.unsigned_abs() {
-            held = held.saturating_add(amount);
-        }
-    }
-    held.saturating_mul(100) >= all.saturating_mul(HELD_PERCENT)
-}
-
-/// Whether few enough residual arcs have less room.
-fn leaves_open(proposal: &Proposal, least: i64) -> bool {
-    let mut all: u64 = 0;
-    let mut closed: u64 = 0;
+/// How many residual arcs have room of each size; at place 0 how many there are.
+fn rooms_by_size(proposal: &Proposal) -> [u64; STAGES] {
+    let mut rooms = [0; STAGES];
     for v in 0..proposal.entries() {
         for link in proposal.ends().at(v).links {
-            let room = link.room::<true>();
-            all = all.saturating_add(u64::from(room > 0));
-            closed = closed.saturating_add(u64::from(room > 0 && room < least));
+            let room = link.room::<true>().unsigned_abs();
+            if room > 0 {
+                add_at(&mut rooms, room, 1);
+            }
         }
     }
-    closed.saturating_mul(100) <= all.saturating_mul(CLOSED_PERCENT)
+    rooms
+}
+
+/// How much is out of balance at nodes where it is of each size; at place 0 how much there is.
+fn rests_by_size(proposal: &Proposal) -> [u64; STAGES] {
+    let mut rests = [0; STAGES];
+    for rest in proposal.rests() {
+        let rest = rest.unsigned_abs();
+        add_at(&mut rests, rest, rest);
+    }
+    rests
+}
+
+/// Adds to what is of the size of a number, which is less than 2 to that power and no less than half of it, and to what there is.
+#[inline(always)]
+fn add_at(table: &mut [u64; STAGES], number: u64, more: u64) {
+    let size = 64u32.saturating_sub(number.leading_zeros()) as usize;
+    if size > 0 && size < STAGES {
+        table[size] = table[size].saturating_add(more);
+    }
+    table[0] = table[0].saturating_add(more);
 }
 
 /// Lets searches use residual arcs of so much room, and fills those of a negative reduced cost.

@@ -3,7 +3,7 @@
 ghost use Rattle.std.specs.Prelude.{◌≡◌, ◌<◌, ◌≤◌, ◌^◌, ℕ, IfOk, IfSome, length};
 ghost use Rattle.relaxation.specs.Links.{LeadTo};
 
-use crate::records::Records;
+use crate::record::NodeRecord;
 use crate::walk::Walk;
 use containers::{Nodes, both};
 use relaxation::{Proposal, seen};
@@ -28,14 +28,17 @@ const FADING: i64 = 4;
 /// A search, and the walks after it. It is seen as the number of entries that a table of nodes has.
 #[derive(Drop)]
 pub struct Search {
-    pub(crate) records: Records,
+    pub(crate) records: Vec<NodeRecord>,
+    /// How far the best path to each node reaches so far: its length and the potential of the node, so that a look at an
+    /// arc asks for this one number of the node beyond.
+    pub(crate) reaches: Vec<i64>,
     pub(crate) frontier: Frontier,
     /// The order in which potentials are first lowered, each node behind those that lead to it.
     pub(crate) order: Nodes,
     pub(crate) walk: Walk,
     /// Walks go along any tight arc, and not only along those from the level below.
     pub(crate) free: bool,
-    /// What is kept apart at each node while leftovers go home: nothing before there are some.
+    /// What is kept apart at each node while leftovers go home.
     pub(crate) apart: Vec<i64>,
     /// The key of the node that was settled last.
     last: i64,
@@ -62,11 +65,13 @@ impl Model for Search {
 
     ghost Value = { ℕ };
 
-    ghost view = { λ s. s.records };
+    ghost view = { λ s. length s.records.items };
 
-    ghost invariant = { λ s. (s.records < 2 ^ 31)
-        × (s.frontier ≡ s.records)
-        × (s.order ≡ s.records) };
+    ghost invariant = { λ s. (length s.records.items < 2 ^ 31)
+        × (length s.reaches.items ≡ length s.records.items)
+        × (length s.apart.items ≡ length s.records.items)
+        × (s.frontier ≡ length s.records.items)
+        × (s.order ≡ length s.records.items) };
 }
 
 impl Search {
@@ -79,17 +84,18 @@ impl Search {
         ensures { IfOk result (λ s. s ≡ entries) }
     {
         let known = both(
-            Records::new(alloc, entries),
-            Frontier::opened(alloc, entries),
+            vec![in alloc; NodeRecord::NEW; entries],
+            vec![in alloc; FAR; entries],
         );
-        let lists = both(
-            Nodes::new(alloc, entries),
-            Vec::with_capacity(alloc, entries),
-        );
-        let walk = Walk::new(alloc, entries);
-        let ((records, frontier), ((order, apart), walk)) = both(known, both(lists, walk))?;
+        let lists = both(Frontier::opened(alloc, entries), Nodes::new(alloc, entries));
+        let walks = both(vec![in alloc; 0; entries], Walk::new(alloc, entries));
+        let ((records, reaches), ((frontier, order), (apart, walk))) = both(
+            known,
+            both(lists, walks),
+        )?;
         Ok(Search {
             records,
+            reaches,
             frontier,
             order,
             walk,
@@ -144,7 +150,7 @@ impl Search {
     pub fn levels(&self) -> u32 {
         let mut deepest = 0;
         for v in self.frontier.settled().listed() {
-            deepest = self.records.get(*v as usize).depth.max(deepest);
+            deepest = self.records[*v as usize].depth.max(deepest);
         }
         deepest
     }
@@ -153,14 +159,24 @@ impl Search {
     pub fn entries(&self) -> usize
         ensures { result ≡ self.now }
     {
-        self.records.entries()
+        self.records.len()
     }
 
     /// Takes all nodes into searches again.
     pub fn start(&mut self)
         ensures { self.new ≡ self.old }
     {
-        call_back_all(&mut self.records);
+        for v in 0..self.entries() {
+            self.set_gone(v, false);
+        }
+    }
+
+    /// Leaves a node out of all searches, or takes it into them again.
+    fn set_gone(&mut self, v: usize, gone: bool)
+        requires { v < self.old }
+        ensures { self.new ≡ self.old }
+    {
+        self.records[v].gone = gone;
     }
 
     /// Looks for paths from the nodes in excess until so many nodes in deficit are reached, or none is left to be settled;
@@ -198,12 +214,11 @@ impl Search {
         self.frontier.forget();
         self.last = 0;
         self.got = 0;
-        self.records
-            .limit_all::<AHEAD>(proposal.potentials(), limit);
+        set_reaches::<AHEAD>(&mut self.reaches, proposal.potentials(), limit);
         let mut goals: usize = 0;
         for v in 0..self.entries() {
             // Most nodes are in balance.
-            if proposal.rest(v) == 0 || self.records.is_gone(v) {
+            if proposal.rest(v) == 0 || self.records[v].gone {
                 continue;
             }
             if proposal.is_root::<AHEAD>(v) {
@@ -220,8 +235,20 @@ impl Search {
         requires { v < self.old }
         ensures { self.new ≡ self.old }
     {
-        self.records.open(v, potential, 0, NO_PLACE);
+        self.open(v, potential, 0, NO_PLACE);
         self.frontier.settle(v);
+    }
+
+    /// Writes down a path to a node that reaches so far.
+    #[inline(always)]
+    fn open(&mut self, v: usize, reach: i64, depth: u32, parent: u32)
+        requires { v < self.old }
+        ensures { self.new ≡ self.old }
+    {
+        self.reaches[v] = reach;
+        let record = &mut self.records[v];
+        record.depth = depth;
+        record.parent = parent;
     }
 
     /// Sets up to which length a search for so many goals takes paths at first, and gives it.
@@ -245,12 +272,24 @@ impl Search {
         ensures { self.new ≡ self.old }
     {
         self.is_limited = false;
-        unlimit_all(&mut self.records, &self.frontier);
+        for v in 0..self.entries() {
+            self.unlimit(v);
+        }
         for k in 0..self.entries() {
             let Some(u) = self.frontier.settled().at(k) else {
                 return;
             };
             self.look_on::<AHEAD>(proposal, u);
+        }
+    }
+
+    /// Takes all paths to a node to which none is known.
+    fn unlimit(&mut self, v: usize)
+        requires { v < self.old }
+        ensures { self.new ≡ self.old }
+    {
+        if self.frontier.state(v) == State::New {
+            self.reaches[v] = FAR;
         }
     }
 
@@ -266,7 +305,7 @@ impl Search {
         }
         let u = self.frontier.settle_nearest(FAR)?;
         let potential = seen::<AHEAD>(proposal.potential(u));
-        self.last = self.records.reach(u).wrapping_sub(potential); // far within the range
+        self.last = self.reaches[u].wrapping_sub(potential); // far within the range
         self.count::<AHEAD>(proposal, u);
         self.frontier.take()
     }
@@ -278,7 +317,7 @@ impl Search {
         requires node { v < self.old }
         ensures { self.new ≡ self.old }
     {
-        if proposal.is_goal::<AHEAD>(v) && !self.records.is_gone(v) {
+        if proposal.is_goal::<AHEAD>(v) && !self.records[v].gone {
             self.got = self.got.saturating_add(1);
         }
     }
@@ -290,12 +329,12 @@ impl Search {
         requires node { u < self.old }
         ensures { self.new ≡ self.old }
     {
-        let reach = self.records.reach(u);
-        let depth = self.records.get(u).depth.wrapping_add(1);
+        let reach = self.reaches[u];
+        let depth = self.records[u].depth.wrapping_add(1);
         let links = proposal.ends().at(u).links;
         self.looks = self.looks.wrapping_add(links.len() as u64);
         let mut next = 0;
-        while let Some(k) = nearer_from::<AHEAD>(&self.records, proposal, links, next, reach) {
+        while let Some(k) = nearer_from::<AHEAD>(&self.reaches, proposal, links, next, reach) {
             let link = &links[k];
             let reach = reach_over::<AHEAD>(reach, link, true);
             self.note::<AHEAD>(proposal, link, reach, depth);
@@ -314,10 +353,10 @@ impl Search {
         let v = link.other as usize;
         let potential = seen::<AHEAD>(proposal.potential(v));
         let reach = reach.max(self.last.wrapping_add(potential));
-        if reach >= self.records.reach(v) {
+        if reach >= self.reaches[v] {
             return;
         }
-        self.records.open(v, reach, depth, link.opposite);
+        self.open(v, reach, depth, link.opposite);
         let key = reach.wrapping_sub(potential);
         if self.frontier.line_up(v, key, self.last) {
             self.count::<AHEAD>(proposal, v);
@@ -329,7 +368,11 @@ impl Search {
         requires { proposal.now ≡ self.old }
         ensures { self.new ≡ self.old }
     {
-        leave_out_all::<AHEAD>(&mut self.records, &self.frontier, proposal);
+        for v in 0..self.entries() {
+            if proposal.is_goal::<AHEAD>(v) && self.frontier.state(v) != State::Settled {
+                self.set_gone(v, true);
+            }
+        }
     }
 }
 
@@ -337,20 +380,20 @@ impl Search {
 /// writes nothing, so that all it needs stays in registers: where it wrote, too, `asn_mw` took an eighth more time.
 #[inline(always)]
 fn nearer_from<const AHEAD: bool>(
-    records: &Records,
+    reaches: &[i64],
     proposal: &Proposal,
     links: &[Link],
     first: usize,
     reach: i64,
 ) -> Option<usize>
-    requires { LeadTo records.now links.now }
+    requires { LeadTo (length reaches.now) links.now }
     ensures later { IfSome result (λ k. first ≤ k) }
     ensures one { IfSome result (λ k. k < length links.now) }
 {
     for k in first..links.len() {
         let link = &links[k];
         let over = reach_over::<AHEAD>(reach, link, proposal.is_open(link.room::<AHEAD>()));
-        if over < records.reach(link.other as usize) {
+        if over < reaches[link.other as usize] {
             return Some(k);
         }
     }
@@ -369,36 +412,17 @@ fn reach_over<const AHEAD: bool>(reach: i64, link: &Link, is_open: bool) -> i64 
     if is_open { over } else { BARRED }
 }
 
-/// Takes all paths to the nodes to which none is known.
-fn unlimit_all(records: &mut Records, frontier: &Frontier)
-    requires { frontier.now ≡ records.old }
-    ensures { records.new ≡ records.old }
+/// Makes a path to each node reach so far that it is as long as this, from nodes of these potentials, as a side sees them. The
+/// sums are far within the range.
+fn set_reaches<const AHEAD: bool>(reaches: &mut [i64], potentials: &[i64], most: i64)
+    requires { length potentials.now ≡ length reaches.old }
+    ensures { length reaches.new ≡ length reaches.old }
 {
-    for v in 0..records.entries() {
-        if frontier.state(v) == State::New {
-            records.limit(v, FAR);
-        }
-    }
-}
-
-/// Takes all nodes into searches again.
-fn call_back_all(records: &mut Records)
-    ensures { records.new ≡ records.old }
-{
-    for v in 0..records.entries() {
-        records.set_gone(v, false);
-    }
-}
-
-/// Leaves out of further searches the nodes in deficit that were not settled.
-fn leave_out_all<const AHEAD: bool>(records: &mut Records, frontier: &Frontier, proposal: &Proposal)
-    requires frontier { frontier.now ≡ records.old }
-    requires proposal { proposal.now ≡ records.old }
-    ensures { records.new ≡ records.old }
-{
-    for v in 0..records.entries() {
-        if proposal.is_goal::<AHEAD>(v) && frontier.state(v) != State::Settled {
-            records.set_gone(v, true);
-        }
+    for v in 0..reaches.len() {
+        reaches[v] = if AHEAD {
+            most.wrapping_add(potentials[v])
+        } else {
+            most.wrapping_sub(potentials[v])
+        };
     }
 }

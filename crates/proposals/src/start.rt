@@ -2,8 +2,6 @@
 
 ghost use Rattle.std.specs.Prelude.{◌≡◌, ◌<◌, ◌^◌};
 
-use crate::greatest::level_potentials;
-use crate::records::Records;
 use crate::scaling::begin_stage;
 use crate::search::Search;
 use containers::Nodes;
@@ -32,7 +30,7 @@ impl Search {
         }
         self.put_in_order(proposal);
         if !lower_in_turn(&self.order, proposal) {
-            level_potentials(proposal);
+            proposal.level();
             begin_stage(proposal, 1);
         }
     }
@@ -43,25 +41,54 @@ impl Search {
         ensures { self.new ≡ self.old }
     {
         self.order.clear();
-        count_all(&mut self.records, &mut self.order, proposal);
-        for _ in 0..self.entries() {
-            if !self.list_next(proposal) {
-                break;
-            }
+        for v in 0..self.entries() {
+            self.set_count(v, arcs_to(proposal, v));
         }
-        list_others(&self.records, &mut self.order);
+        for _ in 0..self.entries() {
+            let Some(u) = self.order.take() else {
+                break;
+            };
+            self.pass(proposal, u);
+        }
+        for v in 0..self.entries() {
+            self.list_other(v);
+        }
     }
 
-    /// Lists the node that comes next, and says whether one waited.
-    fn list_next(&mut self, proposal: &Proposal) -> bool
-        requires { proposal.now ≡ self.old }
+    /// Writes down how many arcs lead to a node from others that are not listed, and lists it where none does.
+    fn set_count(&mut self, v: usize, count: u32)
+        requires { v < self.old }
         ensures { self.new ≡ self.old }
     {
-        let Some(u) = self.order.take() else {
-            return false;
-        };
-        pass(&mut self.records, &mut self.order, proposal, u);
-        true
+        self.records[v].current = count;
+        if count == 0 {
+            self.order.add(v);
+        }
+    }
+
+    /// Lists a node if arcs still lead to it.
+    fn list_other(&mut self, v: usize)
+        requires { v < self.old }
+        ensures { self.new ≡ self.old }
+    {
+        if self.records[v].current > 0 {
+            self.order.add(v);
+        }
+    }
+
+    /// Counts the residual arcs from a node no more, and lists the nodes to which no other one leads.
+    fn pass(&mut self, proposal: &Proposal, u: usize)
+        requires proposal { proposal.now ≡ self.old }
+        requires node { u < self.old }
+        ensures { self.new ≡ self.old }
+    {
+        for link in proposal.ends().at(u).links {
+            let v = link.other as usize;
+            if link.room::<true>() > 0 && v != u {
+                let count = self.records[v].current.saturating_sub(1);
+                self.set_count(v, count);
+            }
+        }
     }
 }
 
@@ -84,23 +111,6 @@ fn empty_all(proposal: &mut Proposal) -> bool
     some
 }
 
-/// Counts at each node the residual arcs that lead to it, and lets those wait to which none leads.
-fn count_all(records: &mut Records, queue: &mut Nodes, proposal: &Proposal)
-    requires queue { queue.old ≡ records.old }
-    requires proposal { proposal.now ≡ records.old }
-    requires few { records.old < 2 ^ 31 }
-    ensures records { records.new ≡ records.old }
-    ensures queue { queue.new ≡ queue.old }
-{
-    for v in 0..records.entries() {
-        let count = arcs_to(proposal, v);
-        records.set_current(v, count);
-        if count == 0 {
-            queue.add(v);
-        }
-    }
-}
-
 /// How many residual arcs lead to a node from others.
 fn arcs_to(proposal: &Proposal, v: usize) -> u32
     requires { v < proposal.now }
@@ -112,41 +122,6 @@ fn arcs_to(proposal: &Proposal, v: usize) -> u32
         }
     }
     count
-}
-
-/// Counts the residual arcs from a node no more, and lets the nodes wait to which no other one leads.
-fn pass(records: &mut Records, queue: &mut Nodes, proposal: &Proposal, u: usize)
-    requires queue { queue.old ≡ records.old }
-    requires proposal { proposal.now ≡ records.old }
-    requires few { records.old < 2 ^ 31 }
-    requires node { u < records.old }
-    ensures records { records.new ≡ records.old }
-    ensures queue { queue.new ≡ queue.old }
-{
-    for link in proposal.ends().at(u).links {
-        let v = link.other as usize;
-        if link.room::<true>() <= 0 || v == u {
-            continue;
-        }
-        let count = records.get(v).current.saturating_sub(1);
-        records.set_current(v, count);
-        if count == 0 {
-            queue.add(v);
-        }
-    }
-}
-
-/// Lists the nodes to which arcs still lead.
-fn list_others(records: &Records, order: &mut Nodes)
-    requires order { order.old ≡ records.now }
-    requires few { records.now < 2 ^ 31 }
-    ensures { order.new ≡ order.old }
-{
-    for v in 0..records.entries() {
-        if records.get(v).current > 0 {
-            order.add(v);
-        }
-    }
 }
 
 /// Lowers potentials along the residual arcs, node by node in this order, until none has a negative reduced cost; says

@@ -2,7 +2,7 @@
 
 ghost use Rattle.std.specs.Prelude.{◌≡◌, ◌<◌, ◌^◌, ◌*◌, IfOk, length};
 
-use crate::greatest::{Roots, solve_from};
+use crate::greatest::solve_from;
 use crate::search::Search;
 use crate::solving::solve;
 use crate::wanted::{FlowChange, Wanted};
@@ -12,7 +12,7 @@ use relaxation::{Proposal, Ring, Sets};
 use residual_ends::{Arc, ResidualEnds};
 use std::alloc::{AllocError, Global};
 use std::marker::Model;
-use two_sided::{Between, Readings};
+use two_sided::Between;
 
 /// What a proposal is to reach.
 #[derive(Clone, Copy, PartialEq, Eq)]
@@ -142,7 +142,7 @@ impl Proposals {
     {
         self.standing = Standing::Apart;
         self.proposal.load_nodes(excess, potentials);
-        load_arcs(&mut self.proposal, rows, flow);
+        load_arcs(&mut self.proposal.ends, rows, flow);
         self.returned = None;
         self.search.let_ascend();
         self.solve(rows, flow, excess, aim);
@@ -183,10 +183,14 @@ impl Proposals {
             return;
         }
         let stands = flow_of(&self.proposal, 0, row, flow[0]);
-        let _closed = self.proposal.renew(0, &closed(row, stands));
-        let roots = Roots { source, sink };
+        let closed = Arc {
+            low: stands,
+            cap: stands,
+            ..arc_of(row, stands)
+        };
+        let _closed = self.proposal.ends.renew(0, &closed);
         let more = row.cap.saturating_sub(stands);
-        solve_from(&mut self.proposal, &mut self.search, roots, more);
+        solve_from(&mut self.proposal, &mut self.search, source, sink, more);
         let rest = self.proposal.rest(source);
         self.proposal.set_rest(source, 0);
         self.proposal.set_rest(sink, 0);
@@ -249,9 +253,8 @@ impl Proposals {
             Aim::LeastCost => self.settled.max(self.entries() as u64 / NODES_A_READING),
             Aim::GreatestFlow => self.settled,
         };
-        let readings = Readings::beside(settled);
         self.between
-            .push_between(&mut self.proposal, &mut self.noted, readings)
+            .push_between(&mut self.proposal, &mut self.noted, settled)
     }
 
     /// Notes that these arcs may have got another row or another flow. If a proposal was adopted and they are many,
@@ -284,11 +287,11 @@ impl Proposals {
     {
         if self.standing == Standing::Fresh {
             // What is wanted is not of this proposal: all arcs are taken over.
-            load_arcs(&mut self.proposal, rows, flow);
+            load_arcs(&mut self.proposal.ends, rows, flow);
             return;
         }
         if self.returned.is_some() && !rows.is_empty() {
-            let _opened = self.proposal.renew(0, &Arc::new(&rows[0], flow[0]));
+            let _opened = self.proposal.ends.renew(0, &arc_of(&rows[0], flow[0]));
         }
         self.returned = None;
         for change in changes {
@@ -321,7 +324,7 @@ impl Proposals {
         if self.standing != Standing::Adopted {
             return;
         }
-        self.proposal.list_moved();
+        self.proposal.moved.open();
         self.standing = Standing::InStep;
         self.noted.open();
         self.follow(rows, flow, &[]);
@@ -330,7 +333,16 @@ impl Proposals {
                 self.noted.note(change.arc);
             }
         }
-        self.between.load(&mut self.proposal);
+        self.load_between();
+    }
+
+    /// Gets ready for searches from both sides.
+    fn load_between(&mut self)
+        ensures { self.new ≡ self.old }
+    {
+        let entries = self.entries();
+        self.between.load(entries);
+        self.proposal.ends.put_in_order();
     }
 
     /// Brings an arc in step, and says whether it is: not where another arc has its number now.
@@ -342,14 +354,14 @@ impl Proposals {
         if k >= rows.len() || flow_of(&self.proposal, k, &rows[k], flow[k]) == flow[k] {
             return true;
         }
-        self.proposal.renew(k, &Arc::new(&rows[k], flow[k]))
+        self.proposal.ends.renew(k, &arc_of(&rows[k], flow[k]))
     }
 
     /// Notes that a node may have got another potential.
     pub fn note_node(&mut self, v: u32)
         ensures { self.new ≡ self.old }
     {
-        self.proposal.note_node(v);
+        self.proposal.moved.note(v);
     }
 
     /// Notes that all nodes may have got other potentials.
@@ -403,12 +415,12 @@ impl Proposals {
         ensures { self.new ≡ self.old }
     {
         let is_renewed = self.keeps_step(rows)
-            && renew_all(&mut self.proposal, &self.noted, rows, flow);
+            && renew_all(&mut self.proposal.ends, &self.noted, rows, flow);
         if !is_renewed {
             self.returned = None;
-            self.proposal.list_moved();
-            load_arcs(&mut self.proposal, rows, flow);
-            self.between.load(&mut self.proposal);
+            self.proposal.moved.open();
+            load_arcs(&mut self.proposal.ends, rows, flow);
+            self.load_between();
             self.noted.open();
             self.standing = Standing::InStep;
             self.keeps_nodes = false;
@@ -452,11 +464,6 @@ impl Proposals {
         !self.noted.listed().is_empty() || self.proposal.ends().entered() != rows.len()
     }
 
-    /// Whether the proposal keeps step with these rows.
-    fn is_in_step(&self, rows: &[ArcRow]) -> bool {
-        self.standing == Standing::InStep && self.proposal.ends().entered() == rows.len()
-    }
-
     /// Writes down which arcs are to have another flow, less than all where there is no room for them.
     pub fn write(&self, rows: &[ArcRow], flow: &[i64], wanted: &mut Wanted) {
         wanted.changes.clear();
@@ -468,7 +475,9 @@ impl Proposals {
             }
             first = 1;
         }
-        let _whole = if self.is_in_step(rows) {
+        let is_in_step = self.standing == Standing::InStep
+            && self.proposal.ends().entered() == rows.len();
+        let _whole = if is_in_step {
             write_noted(wanted, &self.proposal, rows, flow, &self.noted)
         } else {
             write_flow(wanted, &self.proposal, rows, flow, first)
@@ -476,22 +485,17 @@ impl Proposals {
     }
 }
 
-/// An arc of such a row that carries so much and has no room.
-fn closed(row: &ArcRow, flow: i64) -> Arc {
+/// An arc of such a row, which carries such a flow.
+#[inline(always)]
+fn arc_of(row: &ArcRow, flow: i64) -> Arc {
     Arc {
-        low: flow,
-        cap: flow,
-        ..Arc::new(row, flow)
+        tail: row.tail,
+        head: row.head,
+        low: row.low,
+        cap: row.cap,
+        cost: row.cost,
+        flow,
     }
-}
-
-/// Takes over the rows and the flow of the arcs.
-#[inline(never)] // a name of its own in the program: `bench/count` counts its calls
-fn load_arcs(proposal: &mut Proposal, rows: &[ArcRow], flow: &[i64])
-    requires { length flow.now ≡ length rows.now }
-    ensures { proposal.new ≡ proposal.old }
-{
-    proposal.load_arcs(rows, flow);
 }
 
 /// Notes each of these arcs.
@@ -501,21 +505,40 @@ fn note_each(noted: &mut Noted, places: &[u32]) {
     }
 }
 
+/// Takes over the rows and the flow of the arcs.
+#[inline(never)] // a name of its own in the program: `bench/count` counts its calls
+fn load_arcs(ends: &mut ResidualEnds, rows: &[ArcRow], flow: &[i64])
+    requires { length flow.now ≡ length rows.now }
+    ensures { ends.new ≡ ends.old }
+{
+    ends.begin(rows.len());
+    for row in rows {
+        ends.count_end(row.tail as usize);
+        ends.count_end(row.head as usize);
+    }
+    ends.make_room();
+    let arcs = ends.entered().min(rows.len());
+    for j in 0..arcs {
+        let k = arcs - 1 - j;
+        ends.enter(k, &arc_of(&rows[k], flow[k]));
+    }
+}
+
 /// Takes over the rows and the flow of the arcs that are noted, that were added or that are gone; says whether it could. It gives
 /// up where the links of as many nodes would move as there are arcs: to enter all arcs anew is quicker then, and leaves free
 /// places where they were used up.
-fn renew_all(proposal: &mut Proposal, noted: &Noted, rows: &[ArcRow], flow: &[i64]) -> bool
+fn renew_all(ends: &mut ResidualEnds, noted: &Noted, rows: &[ArcRow], flow: &[i64]) -> bool
     requires { length flow.now ≡ length rows.now }
-    ensures { proposal.new ≡ proposal.old }
+    ensures { ends.new ≡ ends.old }
 {
-    let before = proposal.ends().entered();
+    let before = ends.entered();
     for k in rows.len()..before {
-        proposal.take_out(k);
+        ends.take_out(k);
     }
     let mut left = rows.len();
     for k in before..rows.len() {
-        let arc = Arc::new(&rows[k], flow[k]);
-        if !proposal.add(k, &arc, &mut left) {
+        let arc = arc_of(&rows[k], flow[k]);
+        if !ends.add(k, &arc, &mut left) {
             return false;
         }
     }
@@ -524,13 +547,13 @@ fn renew_all(proposal: &mut Proposal, noted: &Noted, rows: &[ArcRow], flow: &[i6
         if k >= before.min(rows.len()) {
             continue;
         }
-        let arc = Arc::new(&rows[k], flow[k]);
-        if proposal.renew(k, &arc) {
+        let arc = arc_of(&rows[k], flow[k]);
+        if ends.renew(k, &arc) {
             continue;
         }
         // Another arc was in its place.
-        proposal.take_out(k);
-        if !proposal.add(k, &arc, &mut left) {
+        ends.take_out(k);
+        if !ends.add(k, &arc, &mut left) {
             return false;
         }
     }
@@ -592,7 +615,8 @@ fn write_flow(
 /// The flow that is wanted of an arc that has this flow.
 fn flow_of(proposal: &Proposal, k: usize, row: &ArcRow, flow: i64) -> i64 {
     if row.low <= row.cap {
-        proposal.wanted(k, &Arc::new(row, flow))
+        let stands = proposal.ends().flow_of(k, &arc_of(row, flow));
+        stands.clamp(row.low, row.cap)
     } else {
         row.low
     }

@@ -2,7 +2,7 @@
 
 ghost use Rattle.std.specs.Prelude.{◌≡◌, ◌<◌, ◌^◌};
 
-use crate::grow::{lower_inside, survey_set};
+use crate::grow::{look_on, lower_inside, survey_set};
 use crate::proposal::Proposal;
 use crate::reach::Reach;
 use crate::ring::Ring;
@@ -39,26 +39,9 @@ fn reach_all<const AHEAD: bool>(proposal: &Proposal, reach: &mut Reach)
         }
     }
     for _ in 0..proposal.entries() {
-        let Some((u, _)) = reach.take_in() else {
+        let Some(u) = reach.take_in() else {
             break;
         };
-        note_beyond::<AHEAD>(proposal, reach, u);
-    }
-}
-
-/// Notes the nodes outside the set to which tight residual arcs lead on from a node of it.
-fn note_beyond<const AHEAD: bool>(proposal: &Proposal, reach: &mut Reach, u: usize)
-    requires node { u < proposal.now }
-    requires reach { reach.old ≡ proposal.now }
-    requires few { proposal.now < 2 ^ 32 }
-    ensures { reach.new ≡ reach.old }
-{
-    let potential = proposal.potential(u);
-    for link in proposal.ends().at(u).links {
-        let v = link.other as usize;
-        let is_tight = proposal.reduced_cost::<AHEAD>(potential, link) == 0;
-        if is_tight && link.room::<AHEAD>() > 0 && !reach.is_inside(v) {
-            let _new = reach.note(v, 0, 0);
-        }
+        let _met = look_on::<AHEAD, false>(proposal, reach, u);
     }
 }

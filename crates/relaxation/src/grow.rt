@@ -60,30 +60,27 @@ fn spread<const AHEAD: bool>(proposal: &Proposal, sets: &mut Sets, s: usize, mos
     ensures met { MetIn proposal.now result }
 {
     let mut held = proposal.excess::<AHEAD>(s);
-    let mut carried = begin::<AHEAD>(proposal, &sets.tight, &mut sets.reach, s);
+    begin::<AHEAD>(proposal, &sets.tight, &mut sets.reach, s);
     for _ in 1..most {
-        if held > carried {
+        if held > sets.reach.room() {
             return Growth::Short;
         }
-        let Some((u, room)) = sets.reach.take_in() else {
+        let Some(u) = sets.reach.take_in() else {
             return Growth::Short;
         };
         sets.looks = sets
             .looks
             .saturating_add(proposal.ends().at(u).links.len() as u64);
         held = held.wrapping_add(proposal.excess::<AHEAD>(u));
-        carried = carried.wrapping_sub(room);
-        let found = look_on::<AHEAD>(proposal, &mut sets.reach, u);
-        if let Some(target) = found.met {
+        if let Some(target) = look_on::<AHEAD, true>(proposal, &mut sets.reach, u) {
             return Growth::Met(target);
         }
-        carried = carried.wrapping_add(found.room);
     }
     Growth::Large
 }
 
-/// Begins the set with a node, notes where the tight residual arcs lead that were listed of it, and gives their room.
-fn begin<const AHEAD: bool>(proposal: &Proposal, tight: &Places, reach: &mut Reach, s: usize) -> i64
+/// Begins the set with a node, and notes where the tight residual arcs lead that were listed of it.
+fn begin<const AHEAD: bool>(proposal: &Proposal, tight: &Places, reach: &mut Reach, s: usize)
     requires node { s < proposal.now }
     requires reach { reach.old ≡ proposal.now }
     requires few { proposal.now < 2 ^ 32 }
@@ -91,7 +88,6 @@ fn begin<const AHEAD: bool>(proposal: &Proposal, tight: &Places, reach: &mut Rea
 {
     let _new = reach.note(s, 0, 0);
     let _first = reach.take_in();
-    let mut carried: i64 = 0;
     for place in tight.listed() {
         let Some(link) = proposal.ends().link(*place) else {
             continue;
@@ -99,30 +95,25 @@ fn begin<const AHEAD: bool>(proposal: &Proposal, tight: &Places, reach: &mut Rea
         let room = link.room::<AHEAD>();
         if room > 0 {
             let _new = reach.note(link.other as usize, *place, room);
-            carried = carried.wrapping_add(room);
         }
     }
-    carried
 }
 
-/// What a node of the set reaches: a node in deficit, or so much room of tight residual arcs.
-#[derive(Clone, Copy)]
-struct Found {
-    met: Option<usize>,
-    room: i64,
-}
-
-/// Notes the nodes outside the set to which tight residual arcs lead on from a node of it.
-fn look_on<const AHEAD: bool>(proposal: &Proposal, reach: &mut Reach, u: usize) -> Found
+/// Notes the nodes outside the set to which tight residual arcs lead on from a node of it, up to the first one in deficit if
+/// that ends the set, and gives that.
+pub fn look_on<const AHEAD: bool, const ENDS: bool>(
+    proposal: &Proposal,
+    reach: &mut Reach,
+    u: usize,
+) -> Option<usize>
     requires node { u < proposal.now }
     requires reach { reach.old ≡ proposal.now }
     requires few { proposal.now < 2 ^ 32 }
     ensures reach { reach.new ≡ reach.old }
-    ensures met { IfSome result.met (λ v. v < proposal.now) }
+    ensures met { IfSome result (λ v. v < proposal.now) }
 {
     let potential = proposal.potential(u);
     let ends = proposal.ends().at(u);
-    let mut room: i64 = 0;
     for (k, link) in ends.links.iter().enumerate() {
         let more = link.room::<AHEAD>();
         let v = link.other as usize;
@@ -130,12 +121,12 @@ fn look_on<const AHEAD: bool>(proposal: &Proposal, reach: &mut Reach, u: usize) 
         if proposal.potential(v) != potential + link.cost || more <= 0 || reach.is_inside(v) {
             continue;
         }
-        if reach.note(v, ends.first + k as u32, more) && proposal.excess::<AHEAD>(v) < 0 {
-            return Found { met: Some(v), room };
+        let is_new = reach.note(v, ends.first + k as u32, more);
+        if ENDS && is_new && proposal.excess::<AHEAD>(v) < 0 {
+            return Some(v);
         }
-        room += more;
     }
-    Found { met: None, room }
+    None
 }
 
 /// Pushes what fits from `s` to `target` along the arcs by which the nodes between them were reached.
@@ -213,24 +204,16 @@ pub fn survey_set<const AHEAD: bool>(proposal: &Proposal, sets: &mut Sets) -> i6
     requires sets { sets.old.reach ≡ proposal.now }
     ensures { sets.new.reach ≡ sets.old.reach }
 {
-    let held = held_inside::<AHEAD>(proposal, &sets.reach);
+    let mut held: i64 = 0;
+    for u in sets.reach.inside() {
+        held = held.wrapping_add(proposal.excess::<AHEAD>(*u as usize));
+    }
     sets.candidates.begin(held);
     for u in sets.reach.inside() {
         let u = *u as usize;
         let looks = proposal.ends().at(u).links.len() as u64;
         sets.looks = sets.looks.saturating_add(looks);
         survey_out::<AHEAD>(proposal, &sets.reach, &mut sets.candidates, u);
-    }
-    held
-}
-
-/// What lies in the set.
-fn held_inside<const AHEAD: bool>(proposal: &Proposal, reach: &Reach) -> i64
-    requires { reach.now ≡ proposal.now }
-{
-    let mut held: i64 = 0;
-    for u in reach.inside() {
-        held = held.wrapping_add(proposal.excess::<AHEAD>(*u as usize));
     }
     held
 }

@@ -4,7 +4,6 @@ ghost use Rattle.std.specs.Prelude.{◌≡◌, IsTrue};
 ghost use Rattle.residual_ends.specs.Limits.{IsInLimits};
 
 use crate::limits::{COST_LIMIT, ROOM_LIMIT};
-use dimacs_text::ArcRow;
 
 /// An arc as a proposal takes it over: nodes, by their places in the tables of nodes; bounds; the cost of a unit; and the
 /// flow that it carries.
@@ -19,22 +18,6 @@ pub struct Arc {
 }
 
 impl Arc {
-    /// An arc of such a row, which carries such a flow.
-    #[inline(always)]
-    pub fn new(row: &ArcRow, flow: i64) -> Arc
-        ensures low { result.low ≡ row.now.low }
-        ensures cap { result.cap ≡ row.now.cap }
-    {
-        Arc {
-            tail: row.tail,
-            head: row.head,
-            low: row.low,
-            cap: row.cap,
-            cost: row.cost,
-            flow,
-        }
-    }
-
     /// The arc with no more room than the limits allow: where it has more, a part on either side of its flow.
     pub(crate) fn narrowed(self) -> Arc
         ensures tail { result.tail ≡ self.tail }

@@ -9,36 +9,9 @@ use relaxation::Proposal;
 use std::alloc::{AllocError, Global};
 use std::marker::Model;
 
-/// How often all ends are read before a run of pushes gives up.
-#[derive(Clone, Copy)]
-pub struct Readings {
-    /// Where many nodes are out of balance, before the first of them is in balance.
-    pub of_first: u64,
-    /// And for all of them together, where they are many: if they take longer, relaxation serves them better.
-    pub of_many: u64,
-    /// While few nodes are out of balance.
-    pub of_few: u64,
-}
-
-impl Readings {
-    /// What served best in sessions. While few nodes are out of balance, searches may read as much as searches from afar that
-    /// settle each node so often: these are the other way to go on.
-    pub fn beside(settled: u64) -> Readings {
-        Readings {
-            of_first: 1,
-            of_many: 9,
-            of_few: settled.max(LEAST_OF_FEW).min(MOST_OF_FEW),
-        }
-    }
-
-    /// How many ends are read at most, of so many, until one node more than these of all is in balance.
-    fn most(self, ends: u64, passed: usize, roots: usize) -> u64 {
-        let each = self.of_many.saturating_mul(ends) / (roots as u64).max(1);
-        self.of_first
-            .saturating_mul(ends)
-            .saturating_add(each.saturating_mul(passed as u64))
-    }
-}
+/// So often all ends are read at most where many nodes are out of balance, besides once before the first of them is in balance:
+/// if they take longer, relaxation serves them better.
+const MOST_OF_MANY: u64 = 9;
 
 /// So often all ends are read at most while few nodes are out of balance, where a solve takes little: with 200 edits of a
 /// maximum flow took up to five times as long as to solve it anew.
@@ -52,9 +25,6 @@ const READS_OF_ARC: u64 = 8;
 
 /// More nodes than these are many.
 const MANY: usize = 16;
-
-/// So many nodes are looked at together where most are in balance.
-const BLOCK: usize = 64;
 
 /// A search from nodes in excess and from nodes in deficit at once, and the path that it finds. It is seen as the number
 /// of entries that a table of nodes has: 0 before the first load, so that a run without one does not touch its room.
@@ -122,14 +92,12 @@ impl Between {
         self.ahead.entries()
     }
 
-    /// Gets ready for searches on a proposal, of which it puts the ends in order, if there is room for as many nodes as it has.
-    pub fn load(&mut self, proposal: &mut Proposal)
-        requires { proposal.old < 2 ^ 31 }
-        ensures { proposal.new ≡ proposal.old }
+    /// Gets ready for searches among so many entries of nodes, if there is room for them.
+    pub fn load(&mut self, entries: usize)
+        requires { entries < 2 ^ 31 }
     {
-        let entries = proposal.entries();
-        if self.entries() == entries || self.open(entries) {
-            proposal.put_in_order();
+        if self.entries() != entries {
+            let _opened = self.open(entries);
         }
     }
 
@@ -150,23 +118,19 @@ impl Between {
         false
     }
 
-    /// Pushes along shortest paths until one side is empty or the sides do not meet, or else until the readings are used
-    /// up; says whether it came to the former, and notes the arcs whose flow it moves. The ends are in
-    /// order, and the nodes out of balance are listed.
+    /// Pushes along shortest paths until one side is empty or the sides do not meet, or else until too much was read; says
+    /// whether it came to the former, and notes the arcs whose flow it moves. The ends are in order, and the nodes out of balance
+    /// are listed. While few nodes are out of balance, searches may read about as much as searches from afar that settle each
+    /// node so often: these are the other way to go on.
     #[inline(never)] // a name of its own in the program: `bench/count` counts its calls
-    pub fn push_between(
-        &mut self,
-        proposal: &mut Proposal,
-        noted: &mut Noted,
-        readings: Readings,
-    ) -> bool
+    pub fn push_between(&mut self, proposal: &mut Proposal, noted: &mut Noted, settled: u64) -> bool
         requires { proposal.old ≡ self.old }
         ensures kept { self.new ≡ self.old }
         ensures proposal { proposal.new ≡ proposal.old }
     {
         self.ahead.forget_margins();
         self.behind.forget_margins();
-        if self.roots() > MANY && !self.push_in_pairs(proposal, noted, readings) {
+        if self.roots() > MANY && !self.push_in_pairs(proposal, noted) {
             return false;
         }
         let ends = proposal.ends().count() as u64;
@@ -176,9 +140,9 @@ impl Between {
                 return true;
             }
             let most = if self.begun() > MANY {
-                readings.of_first
+                1
             } else {
-                readings.of_few
+                settled.max(LEAST_OF_FEW).min(MOST_OF_FEW)
             };
             if reads > ends.saturating_mul(most) {
                 return false;
@@ -195,24 +159,19 @@ impl Between {
     /// Pushes from one node in excess to one in deficit, until either is in balance, and then from or to the next one; says
     /// whether that did not take too long. So a search sees little, as after a single edit: one that begins at all nodes sees
     /// more, since it has to come from each as far as the shortest path is long.
-    fn push_in_pairs(
-        &mut self,
-        proposal: &mut Proposal,
-        noted: &mut Noted,
-        readings: Readings,
-    ) -> bool
+    fn push_in_pairs(&mut self, proposal: &mut Proposal, noted: &mut Noted) -> bool
         requires { proposal.old ≡ self.old }
         ensures kept { self.new ≡ self.old }
         ensures proposal { proposal.new ≡ proposal.old }
     {
         let ends = proposal.ends().count() as u64;
-        let roots = self.roots();
+        let each = MOST_OF_MANY.saturating_mul(ends) / (self.roots() as u64).max(1);
         let mut reads: u64 = 0;
         let mut from: usize = 0;
         let mut to: usize = 0;
         for _ in 0..u64::MAX {
-            let passed = from.saturating_add(to);
-            if reads > readings.most(ends, passed, roots) {
+            let passed = from.saturating_add(to) as u64;
+            if reads > ends.saturating_add(each.saturating_mul(passed)) {
                 return false;
             }
             let (Some(s), Some(t)) = (self.sources.at(from), self.sinks.at(to)) else {
@@ -279,15 +238,8 @@ impl Between {
     {
         self.sources.clear();
         self.sinks.clear();
-        for block in 0..=proposal.entries() / BLOCK {
-            let first = block.saturating_mul(BLOCK);
-            if are_balanced(proposal, first) {
-                continue;
-            }
-            let end = first.saturating_add(BLOCK).min(proposal.entries());
-            for v in first..end {
-                self.list_root(v, proposal.rest(v));
-            }
+        for v in 0..proposal.entries() {
+            self.list_root(v, proposal.rest(v));
         }
     }
 
@@ -364,11 +316,13 @@ impl Between {
         };
         lower_all::<true>(&self.ahead, proposal, fall);
         lower_all::<false>(&self.behind, proposal, meeting.length - fall);
-        self.ahead.mark_path(proposal, meeting.node, true);
-        let join = self.behind.last_on(proposal, meeting.node, &self.ahead);
-        self.ahead.mark_path(proposal, meeting.node, false);
+        let _root = self
+            .ahead
+            .trace(proposal, meeting.node, &mut self.path_ahead);
+        let (join, t) = self
+            .behind
+            .trace_apart(proposal, meeting.node, &self.ahead, &mut self.path_behind);
         let s = self.ahead.trace(proposal, join, &mut self.path_ahead);
-        let t = self.behind.trace(proposal, join, &mut self.path_behind);
         let amount = proposal.excess::<true>(s).min(proposal.excess::<false>(t));
         let amount = room_along::<true>(proposal, &self.path_ahead, amount);
         let amount = room_along::<false>(proposal, &self.path_behind, amount);
@@ -386,17 +340,6 @@ impl Between {
             &self.arcs,
         );
     }
-}
-
-/// Whether all nodes of the block from one on are in balance.
-#[inline(always)]
-fn are_balanced(proposal: &Proposal, first: usize) -> bool {
-    let end = first.saturating_add(BLOCK).min(proposal.entries());
-    let mut any = 0;
-    for v in first..end {
-        any = any | proposal.rest(v);
-    }
-    any == 0
 }
 
 /// Begins at all these nodes that are in excess still, as a side sees them.
@@ -531,7 +474,7 @@ fn follow(
 {
     for k in arcs.listed() {
         noted.note(*k);
-        proposal.put_arc_in_order(*k as usize);
+        proposal.ends.put_arc_in_order(*k as usize);
         if let Some(ends) = proposal.ends().ends_of(*k as usize) {
             let (tail, head) = (ends.head.other as usize, ends.tail.other as usize);
             ahead.forget_margin(tail);

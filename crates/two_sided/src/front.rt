@@ -5,9 +5,8 @@ ghost use Rattle.relaxation.specs.Limits.{IsWithin, rest_limit};
 ghost use Rattle.two_sided.specs.Keys.{key_limit};
 
 use crate::frontier::{Frontier, State};
-use crate::late::Late;
 use crate::length::{FAR, NO_PLACE};
-use containers::{Nodes, Places, both};
+use containers::{Heap, Nodes, Places, both};
 use relaxation::Proposal;
 use residual_ends::Link;
 use std::alloc::{AllocError, Global};
@@ -23,8 +22,6 @@ pub struct Label {
     key: i64,
     /// The place, at this node, of the last arc of that path.
     parent: u32,
-    /// It is on the path that is traced.
-    walked: bool,
     ghost key_low: { pos 0 ≤ℤ key },
     ghost key_high: { key ≤ℤ pos key_limit },
 }
@@ -33,7 +30,6 @@ impl Label {
     const NONE: Label = Label {
         key: FAR,
         parent: NO_PLACE,
-        walked: false,
     };
 }
 
@@ -52,7 +48,6 @@ fn label_beyond(key: i64, reduced_cost: i64, parent: u32) -> Label
     Label {
         key: length.min(FAR),
         parent,
-        walked: false,
     }
 }
 
@@ -102,7 +97,7 @@ pub struct Front {
     margins: Nodes,
     /// Settled nodes whose other ends all lead far: these are read once the search has come half as far, which is
     /// seldom.
-    late: Late,
+    late: Heap,
     /// Of how many settled nodes the free ends were read, those with room both ways; at the last one some may be left.
     spread: usize,
     /// The place of the free end of that node that is read next, and the place behind the last one.
@@ -152,7 +147,7 @@ impl Front {
             Vec::with_capacity(alloc, entries),
             Nodes::reserve(alloc, entries),
         );
-        let late = Late::new(alloc, entries);
+        let late = Heap::new(alloc, entries);
         let ((labels, frontier), ((beyond, margins), late)) = both(labels, both(margins, late))?;
         Ok(Front {
             labels,
@@ -424,7 +419,6 @@ impl Front {
         self.labels[v] = Label {
             key: self.last,
             parent,
-            walked: false,
         };
         self.frontier.settle(v);
     }
@@ -500,15 +494,17 @@ impl Front {
         late
     }
 
-    /// Lists the places of the arcs of the path to a node, from its end, and gives the node where it begins.
-    pub fn trace(&self, proposal: &Proposal, v: usize, path: &mut Places) -> usize
-        requires proposal { proposal.now ≡ self.now }
-        requires node { v < self.now }
-        ensures { result < self.now }
+    /// Lists the places of the arcs of the path to a node, from its end, marks its nodes, and gives the node where it begins.
+    pub fn trace(&mut self, proposal: &Proposal, v: usize, path: &mut Places) -> usize
+        requires proposal { proposal.now ≡ self.old }
+        requires node { v < self.old }
+        ensures kept { self.new ≡ self.old }
+        ensures node { result < self.old }
     {
         path.clear();
         let mut u = v;
         for _ in 0..self.labels.len() {
+            self.mark(u);
             let place = self.labels[u].parent;
             let Some(link) = proposal.ends().link(place) else {
                 break;
@@ -519,57 +515,45 @@ impl Front {
         u
     }
 
-    /// Marks the nodes of the path to a node, or takes the marks off.
-    pub fn mark_path(&mut self, proposal: &Proposal, v: usize, walked: bool)
-        requires proposal { proposal.now ≡ self.old }
-        requires node { v < self.old }
-        ensures { self.new ≡ self.old }
-    {
-        let mut u = v;
-        for _ in 0..self.labels.len() {
-            self.mark(u, walked);
-            let Some(link) = proposal.ends().link(self.labels[u].parent) else {
-                break;
-            };
-            u = link.other as usize;
-        }
-    }
-
-    /// Marks a node, or takes its mark off.
-    fn mark(&mut self, v: usize, walked: bool)
+    /// Marks a node as on the path that is traced.
+    fn mark(&mut self, v: usize)
         requires { v < self.old }
         ensures { self.new ≡ self.old }
     {
-        self.labels[v].walked = walked;
+        self.frontier.set_state(v, State::Walked);
     }
 
-    /// Whether a node is on the path that is marked.
-    pub fn is_walked(&self, v: usize) -> bool
-        requires { v < self.now }
-    {
-        self.labels[v].walked
-    }
-
-    /// The last node of the path to a node, seen from that node, that another side's marked path meets too: from there on
-    /// the two paths meet no more.
-    pub fn last_on(&self, proposal: &Proposal, v: usize, other: &Front) -> usize
+    /// Lists the places of the arcs of the path to a node, from the last of its nodes on, seen from its end, that the marked path
+    /// of another side meets, too: from there on the two meet no more. Gives that node, and the one where the path begins.
+    pub fn trace_apart(
+        &self,
+        proposal: &Proposal,
+        v: usize,
+        other: &Front,
+        path: &mut Places,
+    ) -> (usize, usize)
         requires proposal { proposal.now ≡ self.now }
         requires other { other.now ≡ self.now }
         requires node { v < self.now }
-        ensures { result < self.now }
+        ensures join { result.0 < self.now }
+        ensures root { result.1 < self.now }
     {
-        let mut last = v;
+        path.clear();
+        let mut join = v;
         let mut u = v;
         for _ in 0..self.labels.len() {
-            let Some(link) = proposal.ends().link(self.labels[u].parent) else {
+            if other.frontier.state(u) == State::Walked {
+                path.clear();
+                join = u;
+            }
+            let place = self.labels[u].parent;
+            let Some(link) = proposal.ends().link(place) else {
                 break;
             };
+            path.add(place);
             u = link.other as usize;
-            if other.is_walked(u) {
-                last = u;
-            }
         }
-        last
+        (join, u)
     }
 }
 

@@ -8,9 +8,8 @@
 mod between;
 mod front;
 mod frontier;
-mod late;
 mod length;
 
-pub use between::{Between, Readings};
+pub use between::Between;
 pub use frontier::{Frontier, State};
 pub use length::{FAR, NO_PLACE};

@@ -1,8 +1,5 @@
 use Rattle.std.proofs.Common.{◌≡◌}
 use Rattle.two_sided.proofs.between.Between.list_roots.Given as goal
 
-abbrev pub invariant-loop-block : goal.invariant-loop-block
-invariant-loop-block l = l.self ≡ l.initial.self
-
 abbrev pub invariant-loop-v : goal.invariant-loop-v
 invariant-loop-v l = l.self ≡ l.initial.self

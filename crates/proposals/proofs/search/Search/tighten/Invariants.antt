@@ -1,5 +1,5 @@
 use Rattle.std.proofs.Common.{◌≡◌}
-use Rattle.proposals.proofs.block.tighten_all.Given as goal
+use Rattle.proposals.proofs.search.Search.tighten.Given as goal
 
 abbrev pub invariant-loop-v : goal.invariant-loop-v
 invariant-loop-v g l = l.proposal ≡ l.initial.proposal
