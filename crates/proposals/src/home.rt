@@ -15,19 +15,21 @@ impl Search {
         ensures kept { self.new ≡ self.old }
         ensures proposal { proposal.new ≡ proposal.old }
     {
+        self.apart.clear();
         for v in 0..self.entries() {
             let sent = seen::<AHEAD>(astray::<AHEAD>(proposal.excess::<AHEAD>(v), home[v]));
-            self.keep(v, proposal.rest(v).saturating_sub(sent));
+            self.keep(proposal.rest(v).saturating_sub(sent));
             proposal.set_rest(v, sent);
         }
     }
 
-    /// Keeps so much apart at a node.
-    fn keep(&mut self, v: usize, apart: i64)
-        requires { v < self.old }
+    /// Keeps so much apart at the next node.
+    fn keep(&mut self, apart: i64)
         ensures { self.new ≡ self.old }
     {
-        self.apart[v] = apart;
+        if self.apart.len() < self.apart.capacity() {
+            self.apart.push_reserved(apart);
+        }
     }
 
     /// Adds what was kept apart.
@@ -36,7 +38,9 @@ impl Search {
         ensures { proposal.new ≡ proposal.old }
     {
         for v in 0..self.entries() {
-            proposal.add_rest(v, self.apart[v]);
+            if let Some(apart) = self.apart.get(v) {
+                proposal.add_rest(v, *apart);
+            }
         }
     }
 }

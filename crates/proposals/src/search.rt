@@ -38,7 +38,7 @@ pub struct Search {
     pub(crate) walk: Walk,
     /// Walks go along any tight arc, and not only along those from the level below.
     pub(crate) free: bool,
-    /// What is kept apart at each node while leftovers go home.
+    /// What is kept apart at each node while leftovers go home: the room is not touched before there are some.
     pub(crate) apart: Vec<i64>,
     /// The key of the node that was settled last.
     last: i64,
@@ -69,7 +69,6 @@ impl Model for Search {
 
     ghost invariant = { λ s. (length s.records.items < 2 ^ 31)
         × (length s.reaches.items ≡ length s.records.items)
-        × (length s.apart.items ≡ length s.records.items)
         × (s.frontier ≡ length s.records.items)
         × (s.order ≡ length s.records.items) };
 }
@@ -88,7 +87,10 @@ impl Search {
             vec![in alloc; FAR; entries],
         );
         let lists = both(Frontier::opened(alloc, entries), Nodes::new(alloc, entries));
-        let walks = both(vec![in alloc; 0; entries], Walk::new(alloc, entries));
+        let walks = both(
+            Vec::with_capacity(alloc, entries),
+            Walk::new(alloc, entries),
+        );
         let ((records, reaches), ((frontier, order), (apart, walk))) = both(
             known,
             both(lists, walks),
