@@ -8,6 +8,7 @@ pub mod Settle
 pub mod Cut
 pub mod Side
 pub mod Found
+pub mod Trails
 pub mod Excess
 pub mod Scratch
 pub mod ScratchView

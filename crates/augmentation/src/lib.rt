@@ -21,6 +21,7 @@ mod pushes;
 mod rounds;
 mod scratch;
 mod side;
+mod trails;
 mod trial;
 
 pub use adoption::{adopt, push_all, push_proposed};

@@ -1,6 +1,6 @@
 //! Pushes to the nodes in deficit of a forest of arcs that cost nothing.
 
-ghost use Rattle.std.specs.Prelude.{◌<◌, ◌<ℤ◌, IsTrue, length, pos};
+ghost use Rattle.std.specs.Prelude.{◌≡◌, ◌<◌, ◌<ℤ◌, IsTrue, length, pos};
 ghost use Rattle.residual_graph.specs.Residual.{number_at};
 ghost use Rattle.augmentation.specs.Found.{HasFoundIn};
 ghost use Rattle.augmentation.specs.Pseudoflow.{IsCertifiedIn};
@@ -14,42 +14,68 @@ use crate::scratch::Scratch;
 use residual_graph::Graph;
 use tracked::Tracked;
 
-/// Pushes once to each node in deficit of a forest, what its path has room for; counts the pushes.
+/// Pushes to each node in deficit of a forest, for as long as a way to it is left; counts the pushes.
 pub(crate) fn push_to_all(
     graph: &Graph,
     flow: &mut Tracked<i64>,
     excess: &mut Excess,
-    scratch: &Scratch,
+    scratch: &mut Scratch,
 ) -> u64
-    requires state { IsCertifiedIn graph.now flow.old excess.old scratch.now }
-    requires forest { IsForest graph.now.rows scratch.now.potentials scratch.now.predecessors }
+    requires state { IsCertifiedIn graph.now flow.old excess.old scratch.old }
+    requires forest { IsForest graph.now.rows scratch.old.potentials scratch.old.predecessors }
     ensures pushed { HavePushed graph.now result
-        flow.old flow.new excess.old excess.new scratch.now scratch.now }
+        flow.old flow.new excess.old excess.new scratch.old scratch.new }
 {
     let mut pushes = 0;
     for target in 0..scratch.predecessors.len() {
-        if push_if_lacking(graph, flow, excess, scratch, target) {
-            pushes += 1;
-        }
+        pushes += push_all_to(graph, flow, excess, scratch, target);
     }
     pushes
 }
 
-/// The same to one node, where a path of the forest leads to it and it is in deficit. Says whether something was pushed.
-fn push_if_lacking(
+/// The same to one node.
+fn push_all_to(
     graph: &Graph,
     flow: &mut Tracked<i64>,
     excess: &mut Excess,
-    scratch: &Scratch,
+    scratch: &mut Scratch,
+    target: usize,
+) -> u64
+    requires state { IsCertifiedIn graph.now flow.old excess.old scratch.old }
+    requires forest { IsForest graph.now.rows scratch.old.potentials scratch.old.predecessors }
+    requires target { target < length scratch.old.predecessors }
+    ensures pushed { HavePushed graph.now result
+        flow.old flow.new excess.old excess.new scratch.old scratch.new }
+    ensures forest { IsForest graph.now.rows scratch.new.potentials scratch.new.predecessors }
+    ensures same { scratch.new ≡ record scratch.old { predecessors = scratch.new.predecessors } }
+{
+    let mut pushes = 0;
+    while push_once(graph, flow, excess, scratch, target) {
+        pushes += 1;
+    }
+    pushes
+}
+
+/// Looks for a way to a node in deficit, and pushes along it. Says whether it did.
+fn push_once(
+    graph: &Graph,
+    flow: &mut Tracked<i64>,
+    excess: &mut Excess,
+    scratch: &mut Scratch,
     target: usize,
 ) -> bool
-    requires state { IsCertifiedIn graph.now flow.old excess.old scratch.now }
-    requires forest { IsForest graph.now.rows scratch.now.potentials scratch.now.predecessors }
-    requires target { target < length scratch.now.predecessors }
-    ensures { HavePushed graph.now (one_if result)
-        flow.old flow.new excess.old excess.new scratch.now scratch.now }
+    requires state { IsCertifiedIn graph.now flow.old excess.old scratch.old }
+    requires forest { IsForest graph.now.rows scratch.old.potentials scratch.old.predecessors }
+    requires target { target < length scratch.old.predecessors }
+    ensures pushed { HavePushed graph.now (one_if result)
+        flow.old flow.new excess.old excess.new scratch.old scratch.new }
+    ensures forest { IsForest graph.now.rows scratch.new.potentials scratch.new.predecessors }
+    ensures same { scratch.new ≡ record scratch.old { predecessors = scratch.new.predecessors } }
 {
-    if excess.entries[target] >= 0 || scratch.predecessors[target].is_open {
+    if excess.entries[target] >= 0 || !scratch.find_way(graph, flow.entries(), excess, target) {
+        return false;
+    }
+    if scratch.predecessors[target].is_open {
         return false;
     }
     push_to(graph, flow, excess, scratch, target)

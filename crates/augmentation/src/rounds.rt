@@ -14,6 +14,9 @@ use residual_graph::Graph;
 use shortest_paths::search_from_excess;
 use tracked::Tracked;
 
+/// A search with so few pushes is worth another look at the arcs that cost nothing.
+const FEW_PUSHES: u64 = 8;
+
 /// Searches from all nodes in excess, pushes to the nodes in deficit that they reach, and again, until no node in excess
 /// reaches a node in deficit; counts the pushes. Where a proposal was right, one look at what is reached is all that it
 /// does.
@@ -69,8 +72,8 @@ fn search_on(
     )
 }
 
-/// Pushes to the nodes in deficit to which a search came, to this one first. The potentials end in the range with which a
-/// search begins.
+/// Pushes to the nodes in deficit to which a search came, to this one first; where these pushes were few, looks for other
+/// paths that cost nothing. The potentials end in the range with which a search begins.
 fn push_round(
     graph: &Graph,
     flow: &mut Tracked<i64>,
@@ -86,7 +89,38 @@ fn push_round(
     ensures some { 1 ≤ result }
 {
     push_to(graph, flow, excess, scratch, target);
-    let pushes = 1 + push_to_all(graph, flow, excess, scratch);
+    scratch.trails.clear();
+    let mut pushes = 1 + push_to_all(graph, flow, excess, scratch);
+    pushes += push_by_levels(graph, flow, excess, scratch, pushes);
     scratch.bring_in_range(graph, flow.entries());
+    pushes
+}
+
+/// Where a search led to few pushes, pushes along arcs that cost nothing, over as few of them as can be, until they lead to
+/// no node in deficit; counts these pushes.
+fn push_by_levels(
+    graph: &Graph,
+    flow: &mut Tracked<i64>,
+    excess: &mut Excess,
+    scratch: &mut Scratch,
+    before: u64,
+) -> u64
+    requires state { IsCertifiedIn graph.now flow.old excess.old scratch.old }
+    ensures pushed { HavePushed graph.now result
+        flow.old flow.new excess.old excess.new scratch.old scratch.new }
+{
+    if before >= FEW_PUSHES || !scratch.trails.are_levels_due() {
+        return 0;
+    }
+    let mut pushes = 0;
+    while scratch.search_levels(graph, flow.entries(), excess) {
+        scratch.trails.begin(graph);
+        let more = push_to_all(graph, flow, excess, scratch);
+        if more == 0 {
+            break;
+        }
+        pushes += more;
+    }
+    scratch.trails.note_levels(pushes);
     pushes
 }

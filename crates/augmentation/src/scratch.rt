@@ -5,6 +5,7 @@ ghost use Rattle.residual_graph.specs.Graph.{HasEntries};
 ghost use Rattle.residual_graph.specs.Limits.{row_limit};
 ghost use Rattle.residual_graph.specs.Residual.{IsPseudoflow, IsReducedCostOptimal};
 ghost use Rattle.residual_graph.specs.declared.side.Side.TheVariants.{Ahead};
+ghost use Rattle.shortest_paths.specs.Search.{IsForest, IsSearch};
 ghost use Rattle.shortest_paths.specs.Tree.{AreArcsNoted, StaysHeld};
 ghost use Rattle.augmentation.specs.Certificate.{AreInRange};
 ghost use Rattle.augmentation.specs.Cut.{IsParted, AreOnSide};
@@ -14,10 +15,11 @@ use crate::attempt::Attempt;
 use crate::certificate::are_in_range;
 use crate::excess::Excess;
 use crate::side::{OnSide, mark_side};
+use crate::trails::{Ground, Trails, find_way};
 use containers::{Queue, both};
 use proposals::Wanted;
 use residual_graph::{Graph, Side};
-use shortest_paths::{Predecessor, Tree, search_labels};
+use shortest_paths::{Predecessor, Tree, search_labels, search_levels};
 use std::alloc::{AllocError, Global};
 use std::marker::Model;
 use tracked::Touched;
@@ -29,6 +31,8 @@ pub struct Scratch {
     pub(crate) predecessors: Vec<Predecessor>,
     /// The nodes to which a search may come next.
     pub(crate) queue: Queue,
+    /// What walks back along these paths remember.
+    pub(crate) trails: Trails,
     /// Potentials while searches push.
     pub(crate) potentials: Vec<i64>,
     /// The labels that were tested last, and what changed since.
@@ -68,18 +72,21 @@ impl Scratch {
     {
         let predecessors = vec![in alloc; Predecessor::open(); entries as usize];
         let queue = Queue::new(alloc, entries);
+        let trails = Trails::new(alloc, entries as usize);
         let potentials = vec![in alloc; 0; entries as usize];
         let tree = Tree::new(alloc, entries as usize, arcs);
         let marked = Touched::new(alloc, entries as usize);
         let hops = Vec::with_capacity(alloc, entries as usize);
         let attempt = Attempt::new(alloc, entries as usize, arcs);
-        let ((predecessors, (queue, potentials)), ((marked, hops), (tree, attempt))) = both(
-            both(predecessors, both(queue, potentials)),
-            both(both(marked, hops), both(tree, attempt)),
-        )?;
+        let (((predecessors, trails), (queue, potentials)), ((marked, hops), (tree, attempt))) =
+            both(
+                both(both(predecessors, trails), both(queue, potentials)),
+                both(both(marked, hops), both(tree, attempt)),
+            )?;
         Ok(Scratch {
             predecessors,
             queue,
+            trails,
             potentials,
             tree,
             marked,
@@ -177,6 +184,48 @@ impl Scratch {
             ends: self.attempt.proposals.ends(),
         };
         mark_side(on, excess, &mut self.marked, &mut self.hops);
+    }
+
+    /// Searches breadth first from the nodes in excess over residual arcs that cost nothing, and says whether it came to a
+    /// node in deficit.
+    pub(crate) fn search_levels(&mut self, graph: &Graph, flow: &[i64], excess: &Excess) -> bool
+        requires graph { HasEntries (length self.old.potentials) graph.now }
+        requires certified { IsReducedCostOptimal graph.now.rows flow.now self.old.potentials }
+        requires excess_in { length excess.now ≡ length self.old.potentials }
+        ensures same { self.new ≡ record self.old { predecessors = self.new.predecessors } }
+        ensures paths { IsSearch graph.now.rows flow.now self.old.potentials self.new.predecessors }
+    {
+        search_levels(
+            graph,
+            flow,
+            excess.entries(),
+            &self.potentials,
+            &mut self.predecessors,
+            &mut self.queue,
+        )
+    }
+
+    /// Walks back from a node to one in excess, by hops with room. Says whether it came there.
+    pub(crate) fn find_way(
+        &mut self,
+        graph: &Graph,
+        flow: &[i64],
+        excess: &Excess,
+        target: usize,
+    ) -> bool
+        requires certified { IsReducedCostOptimal graph.now.rows flow.now self.old.potentials }
+        requires excess_in { length excess.now ≡ length self.old.potentials }
+        requires forest { IsForest graph.now.rows self.old.potentials self.old.predecessors }
+        ensures same { self.new ≡ record self.old { predecessors = self.new.predecessors } }
+        ensures forest { IsForest graph.now.rows self.old.potentials self.new.predecessors }
+    {
+        let ground = Ground {
+            graph,
+            flow,
+            excess: excess.entries(),
+            potentials: &self.potentials,
+        };
+        find_way(ground, &mut self.predecessors, &mut self.trails, target)
     }
 
     /// Makes potentials that certify a flow the greatest that do, by a search from all nodes: so seldom that no search

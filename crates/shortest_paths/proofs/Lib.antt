@@ -1,3 +1,4 @@
 pub mod SearchLemmas
 pub mod StepLemmas
 pub mod LabelLemmas
+pub mod LevelLemmas

@@ -4,6 +4,7 @@ use Rattle.containers.specs.Queue.{QueueView}
 use Rattle.residual_graph.specs.declared.residual.Way.{Way}
 use Rattle.residual_graph.specs.Walk.{end_way}
 use Rattle.shortest_paths.specs.declared.progress.Progress.{Progress}
+use Rattle.shortest_paths.specs.Levels.{IsLeadingTo}
 use Rattle.shortest_paths.specs.Search.{AreServed, AreServedFrom, Crosses, HaveJoined, IsServed}
 
 -- the residual arc that leaves at an end crosses
@@ -25,3 +26,7 @@ AreServedFromOn on q v = AreServedFrom on.graph.now.rows on.flow.now on.potentia
 
 abbrev pub AreServedOn : Progress → QueueView → Type 0
 AreServedOn on q = AreServed on.graph.now.rows on.flow.now on.potentials.now on.predecessors.now q
+
+-- the residual arc that leaves at an end crosses, leads to node v, and costs nothing
+abbrev pub IsLeadingToOn : Progress → ℕ → ℕ → Type 0
+IsLeadingToOn on v end = IsLeadingTo on.graph.now.rows on.flow.now on.potentials.now on.predecessors.now v end

@@ -8,6 +8,7 @@
 mod agenda;
 mod forest;
 mod labels;
+mod levels;
 mod predecessor;
 mod progress;
 mod residual_network;
@@ -16,6 +17,7 @@ mod step;
 mod tree;
 
 pub use labels::search_labels;
+pub use levels::{hang_on, search_levels};
 pub use predecessor::{Predecessor, are_traced, is_traced, reduced_along};
 pub use residual_network::Residual;
 pub use search::search_from_excess;

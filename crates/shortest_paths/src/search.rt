@@ -22,7 +22,7 @@ use containers::{Queue, Waiting};
 use residual_graph::Graph;
 
 /// Whether the residual arc that leaves at an end is there, and leads from a node that the search reached to an open one.
-fn crosses(on: Progress<'_>, end: u32) -> bool
+pub(crate) fn crosses(on: Progress<'_>, end: u32) -> bool
     requires end { end / 2 < length on.graph.now.rows }
     ensures { IsTrue result ↔ CrossesOn on.entry end }
 {
@@ -143,7 +143,7 @@ fn lower_reached(potentials: &mut [i64], predecessors: &[Predecessor], fall: i64
 }
 
 /// Begins a search at the nodes in excess.
-fn begin_in_excess(excess: &[i64], predecessors: &mut [Predecessor])
+pub(crate) fn begin_in_excess(excess: &[i64], predecessors: &mut [Predecessor])
     requires sized { length predecessors.old ≡ length excess.now }
     ensures from { IsFromExcess excess.now predecessors.new }
     ensures flat { (v : ℕ) → rank_at predecessors.new v ≡ 0 }

@@ -17,13 +17,21 @@ overflow_add-pushes c =
     let bound : 1 + c.push_to_all-pushes.result < 2 ^ 64 = omega (arith, fits) in
     search (rules, bound)
 
+pub overflow_add-pushes-2 : goal.overflow_add-pushes-2
+overflow_add-pushes-2 c =
+    let s = (goal.at.overflow_add-pushes-2 c).After-push_to in
+    let fits = count_fits c.requires.state (ArePushes-more (ArePushes-more (first s).pushes c.push_to_all-pushes.ensures.pushed.pushes) c.push_by_levels-pushes.ensures.pushed.pushes) in
+    let bound : 1 + c.push_to_all-pushes.result + c.push_by_levels-pushes.result < 2 ^ 64 = omega (arith, fits) in
+    search (rules, bound)
+
 pub returns-clause-pushed : goal.returns-clause-pushed
 returns-clause-pushed c =
     let s = (goal.at.returns-clause-pushed c).After-push_to in
     let second = c.push_to_all-pushes.ensures.pushed in
+    let third = c.push_by_levels-pushes.ensures.pushed in
     record {
-      written = IsWritten-trans _ _ _ (first s).written second.written;
+      written = IsWritten-trans _ _ _ (IsWritten-trans _ _ _ (first s).written second.written) third.written;
       state = search rules;
       held = search rules;
-      pushes = ArePushes-more (first s).pushes second.pushes;
+      pushes = ArePushes-more (ArePushes-more (first s).pushes second.pushes) third.pushes;
     }

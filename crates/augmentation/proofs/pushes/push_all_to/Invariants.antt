@@ -1,0 +1,15 @@
+use Rattle.std.proofs.Common.{◌≡◌}
+use Rattle.shortest_paths.specs.Search.{IsForest}
+use Rattle.augmentation.specs.Push.{left}
+use Rattle.augmentation.specs.Pushes.{HavePushed}
+use Rattle.augmentation.proofs.pushes.push_all_to.Given as goal
+
+abbrev pub invariant-loop-pushes : goal.invariant-loop-pushes
+invariant-loop-pushes l = record {
+  pushed : HavePushed l.graph l.pushes l.initial.flow l.flow l.initial.excess l.excess l.initial.scratch l.scratch;
+  forest : IsForest l.graph.rows l.scratch.potentials l.scratch.predecessors;
+  same : l.scratch ≡ record l.initial.scratch { predecessors = l.scratch.predecessors };
+}
+
+abbrev pub decreases-loop-pushes : goal.decreases-loop-pushes
+decreases-loop-pushes l = left l.excess
