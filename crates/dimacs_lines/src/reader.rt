@@ -155,18 +155,17 @@ impl<T: LineTaker> TextReader<T> {
         Ok(())
     }
 
-    /// Takes the piece through its first LF, and answers how many bytes.
+    /// Takes the piece through its first LF, and answers how many bytes. No fault is decided yet.
     fn feed_part(&mut self, piece: &[u8]) -> Result<usize, TextFault>
-        requires { 0 < length piece.now }
+        requires piece { 0 < length piece.now }
+        requires working { self.old.failure ≡ None }
         ensures used { IfOk result (λ used. (0 < used) × (used ≤ length piece.now)) }
+        ensures working { IfOk result (λ _. self.new.failure ≡ None) }
         ensures err { IfErr result (HasFailed self.new) }
         ensures text { (setting : T.Setting) (text : List ℕ)
             → StandsFor (T.rule setting) (T.holds setting) self.old text
             → FeedsPart (T.rule setting) (T.holds setting) result piece.now self.new text }
     {
-        if let Some(failure) = self.failure {
-            return Err(failure);
-        }
         let line = self.lines.saturating_add(1);
         match take_part(&mut self.cutter, &mut self.taker, piece) {
             Ok((used, complete)) => {

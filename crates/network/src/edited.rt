@@ -38,7 +38,7 @@ fn suits_kind(kind: Kind, low: i64, cap: i64, cost: i64) -> bool
 {
     match kind {
         Kind::Min => true,
-        Kind::Max => low <= 0 && (0 <= cost && cost <= 0),
+        Kind::Max => low <= 0 && cost == 0,
         Kind::Asn => low <= 0 && (1 <= cap && cap <= 1),
     }
 }

@@ -25,4 +25,5 @@ returns-in_err-used-clause-memory g c =
 pub loop-rest-preserved : goal.loop-rest-preserved
 loop-rest-preserved g c =
     let before = c.loop-rest.invariant in
-    fed_more g.T.LineTaker.rule (λ (setting : g.T.LineTaker.Setting). StandsFor (g.T.LineTaker.rule setting) (g.T.LineTaker.holds setting)) c.args.piece.now before.0 c.loop-rest.rest.now c.in_ok-used.used c.args.self.now c.loop-rest.self c.feed_part.new.self before.1 before.2 c.in_ok-used.ensures.text
+    let fed = fed_more g.T.LineTaker.rule (λ (setting : g.T.LineTaker.Setting). StandsFor (g.T.LineTaker.rule setting) (g.T.LineTaker.holds setting)) c.args.piece.now before.0 c.loop-rest.rest.now c.in_ok-used.used c.args.self.now c.loop-rest.self c.feed_part.new.self before.1 before.2 c.in_ok-used.ensures.text in
+    (fed.0, fed.1, fed.2, c.in_ok-used.ensures.working)
