@@ -1,4 +1,4 @@
-//! A best flow, or the cut that tells why there is none, with the greatest potentials that certify it.
+//! All pushes that can be made, and the greatest potentials that certify the flow after them.
 
 ghost use Rattle.std.specs.Prelude.{◌≡◌, ℕ, ℤ, IsTrue, drop, false, length};
 ghost use Rattle.network.specs.Flow.{IsGreatestPotential};
@@ -7,25 +7,23 @@ ghost use Rattle.augmentation.specs.Pseudoflow.{IsReady};
 ghost use Rattle.augmentation.specs.Push.{ArePushes};
 ghost use Rattle.tracked.specs.Tracked.{IsWritten};
 ghost use Rattle.flow_solver.specs.Potentials.{AreAsTold, KeepStep};
-ghost use Rattle.residual_graph.specs.Graph.{HasEntries};
-ghost use Rattle.residual_graph.specs.Residual.{IsPseudoflow};
-ghost use Rattle.augmentation.specs.Cut.{IsParted, AreOnSide, IsSideOfCut};
+ghost use Rattle.augmentation.specs.Cut.{IsParted, AreOnSide};
 ghost use Rattle.augmentation.specs.Held.{IsHeldIn};
 ghost use Rattle.residual_graph.specs.Walk.{AreRowsOf};
 ghost use Rattle.residual_graph.specs.declared.side.Side.TheVariants.{Ahead};
 
 use crate::potentials::Potentials;
-use augmentation::{Cut, Excess, Scratch, mark_cut, push_all, push_proposed};
-use residual_graph::{Graph, Side};
+use augmentation::{Excess, Scratch, push_all, push_proposed};
+use residual_graph::Graph;
 use tracked::Tracked;
 
 /// What pushes came to.
 #[derive(Clone, Copy)]
-struct Pushed {
+pub struct Pushed {
     /// How many were made.
-    count: u64,
+    pub count: u64,
     /// Whether the marks of the scratch are known to be those of the nodes in excess, and of all that they reach.
-    are_marked: bool,
+    pub are_marked: bool,
 }
 
 impl Pushed {
@@ -42,7 +40,7 @@ impl Pushed {
 
 /// Pushes what can be pushed, and says what that came to; the potentials become the greatest that certify the flow. All
 /// nodes are gone over only where a proposal was refused, or left something to push.
-fn push_and_raise(
+pub fn push_and_raise(
     graph: &Graph,
     flow: &mut Tracked<i64>,
     potentials: &mut Potentials,
@@ -93,43 +91,4 @@ fn push_and_raise(
         count: count + more,
         are_marked: false,
     }
-}
-
-/// Makes the flow a best one, or marks the cut that tells why there is none, with the greatest
-/// potentials that certify it, and counts the pushes.
-pub fn settle(
-    graph: &Graph,
-    flow: &mut Tracked<i64>,
-    potentials: &mut Potentials,
-    excess: &mut Excess,
-    scratch: &mut Scratch,
-    cut: &mut Cut,
-) -> u64
-    requires rows { AreRowsOf graph.now.net graph.now.rows }
-    requires ready { IsReady graph.now flow.old.entries potentials.old.table.entries excess.old }
-    requires told { AreAsTold graph.now.net flow.old.entries potentials.old }
-    requires cut_in { length cut.old.entries ≡ length excess.old }
-    requires scratch_in { length scratch.old.potentials ≡ length excess.old }
-    requires held { IsHeldIn graph.now.rows flow.old.whole scratch.old.held }
-    requires step { KeepStep potentials.old scratch.old }
-    ensures flow_written { IsWritten flow.old flow.new }
-    ensures potentials_written { IsWritten potentials.old.table potentials.new.table }
-    ensures cut_written { IsWritten cut.old cut.new }
-    ensures ready { IsReady graph.now flow.new.entries potentials.new.table.entries excess.new }
-    ensures greatest { IsGreatestPotential (reduced graph.now.net) flow.new.entries
-        (at_node (drop 1 potentials.new.table.entries)) }
-    ensures pushed { ArePushes graph.now.rows result
-        flow.old.entries excess.old flow.new.entries excess.new }
-    ensures scratch_in { length scratch.new.potentials ≡ length excess.new }
-    ensures held { IsHeldIn graph.now.rows flow.new.whole scratch.new.held }
-    ensures step { KeepStep potentials.new scratch.new }
-    ensures parted { IsParted graph.now.rows flow.new.entries excess.new }
-    ensures cut { IsSideOfCut graph.now.rows flow.new.entries excess.new cut.new.entries }
-{
-    let pushed = push_and_raise(graph, flow, potentials, excess, scratch);
-    mark_cut(graph, flow, excess, scratch, pushed.are_marked, cut);
-    // Edits list the nodes that they touch, balanced ones too.
-    excess.tidy();
-    potentials.greatest = true;
-    pushed.count
 }

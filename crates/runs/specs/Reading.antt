@@ -53,6 +53,18 @@ abbrev pub reads_all : {X E : Type 0} → Result X E → Bool
 reads_all (Ok x) = true
 reads_all (Err error) = false
 
+-- after a piece, memory aside: the fault that the text decides, or none, and the reader stands for the text
+abbrev pub HasTaken : (List ℕ → Option TextFault) → Result (Unit {0}) TextFault → List ℕ → Type 0 → Type 0
+HasTaken decided (Ok _) text stands = (decided text ≡ None) × stands
+HasTaken decided (Err text_fault.Memory) text stands = Unit {0}
+HasTaken decided (Err (text_fault.Fault number line)) text stands = decided text ≡ Some (text_fault.Fault number line)
+
+-- at the end, memory aside: what the text is read as
+abbrev pub FinishesText : {X : Type 0} → (List ℕ → Result X TextFault) → Result X TextFault → List ℕ → Type 0
+FinishesText reads (Ok x) text = reads text ≡ Ok x
+FinishesText reads (Err text_fault.Memory) text = Unit {0}
+FinishesText reads (Err (text_fault.Fault number line)) text = reads text ≡ Err (text_fault.Fault number line)
+
 -- of the text `given` has come, `rest` is known to be left, and the last read ended it or not: the whole text reads as
 -- this, its fault is decided by now, or a read failed before that
 abbrev pub ReadsText : {X : Type 0} → (List ℕ → Option TextFault) → (List ℕ → Result X TextFault) → Result X ReadError → List ℕ → Option (List ℕ) → Bool → Type 0

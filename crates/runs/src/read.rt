@@ -1,10 +1,11 @@
 //! Reads the texts of a problem and of an answer from their sources.
-ghost use Rattle.std.specs.Prelude.{◌≡◌, ℕ, ◌-◌, ◌^◌, ◌<◌, List};
+ghost use Rattle.std.specs.Prelude.{◌≡◌, ℕ, ◌-◌, ◌^◌, ◌<◌, List, [], ◌++◌, Option, None, Result};
 ghost use Rattle.dimacs_lines.specs.Stream.{decided};
+ghost use Rattle.dimacs_lines.specs.declared.fault.TextFault.{TextFault};
 ghost use Rattle.dimacs_text.specs.Reading.{problem_rule, reads};
 ghost use Rattle.dimacs_text.specs.Answer.{answer_rule, answers};
 ghost use Rattle.dimacs_io.specs.Device.{text_over};
-ghost use Rattle.runs.specs.Reading.{CountsRead, FailsLastRead, ReadsKnown, ReadsText, SourceGives, SourceIsRead, reads_all};
+ghost use Rattle.runs.specs.Reading.{CountsRead, FailsLastRead, FinishesText, HasTaken, ReadsKnown, ReadsText, SourceGives, SourceIsRead, reads_all};
 
 use crate::end::{End, Text};
 use dimacs_io::{Broken, Source};
@@ -67,6 +68,102 @@ impl From<Broken> for ReadError {
     }
 }
 
+/// Reads a text that comes in pieces.
+trait PieceReader: Drop {
+    /// What a text is read as.
+    type Content;
+
+    /// What is known before the text begins.
+    ghost Setting: { Type 0 } = { Unit {0} };
+
+    /// The fault that a text decides, whatever follows.
+    ghost fault: { Self.Setting → List ℕ → Option TextFault };
+
+    /// What a whole text is read as.
+    ghost content: { Self.Setting → List ℕ → Result Self.Content TextFault };
+
+    /// The reader holds what reading takes from this text.
+    ghost stands: { Self.Setting → Self → List ℕ → Type 0 };
+
+    /// Takes the next piece.
+    fn take_piece(&mut self, piece: &[u8]) -> Result<(), TextFault>
+        ensures { (setting : Self.Setting) (text : List ℕ) → stands setting self.old text
+            → HasTaken (fault setting) result (text ++ piece.now)
+            (stands setting self.new (text ++ piece.now)) };
+
+    /// Ends the text.
+    fn end_text(self) -> Result<Self::Content, TextFault>
+        ensures { (setting : Self.Setting) (text : List ℕ) → stands setting self text
+            → FinishesText (content setting) result text };
+}
+
+impl PieceReader for ProblemReader {
+    ghost use Rattle.dimacs_text.specs.ProblemReader.{StandsFor};
+
+    type Content = Problem;
+
+    ghost fault = { λ _. decided problem_rule };
+
+    ghost content = { λ _. reads };
+
+    ghost stands = { λ _. StandsFor };
+
+    fn take_piece(&mut self, piece: &[u8]) -> Result<(), TextFault> {
+        self.feed(piece)
+    }
+
+    fn end_text(self) -> Result<Problem, TextFault> {
+        self.finish()
+    }
+}
+
+impl PieceReader for AnswerReader {
+    ghost use Rattle.std.specs.Prelude.{ℕ};
+    ghost use Rattle.dimacs_text.specs.AnswerReader.{StandsFor};
+
+    type Content = Answer;
+
+    ghost Setting = { ℕ × ℕ };
+
+    ghost fault = { λ size. decided (answer_rule size.0 size.1) };
+
+    ghost content = { λ size. answers size.0 size.1 };
+
+    ghost stands = { λ size. StandsFor size.0 size.1 };
+
+    fn take_piece(&mut self, piece: &[u8]) -> Result<(), TextFault> {
+        self.feed(piece)
+    }
+
+    fn end_text(self) -> Result<Answer, TextFault> {
+        self.finish()
+    }
+}
+
+/// Reads a text to its end, to its first fault or to a failed read.
+fn read_text<R: PieceReader, S: Source>(
+    mut reader: R,
+    source: &mut S,
+) -> Result<R::Content, ReadError>
+    requires { S.failures source.old < 2 ^ 64 - 1 }
+    ensures read { (given : List ℕ)
+        × SourceGives S.remaining S.given S.most_left source.old source.new given
+        × ((setting : R.Setting) → R.stands setting reader [] → R.fault setting [] ≡ None
+        → ReadsText (R.fault setting) (R.content setting) result given
+        (S.remaining source.new) (S.ended source.new)) }
+    ensures failed { CountsRead result (S.failures source.old) (S.failures source.new) }
+    ensures last { FailsLastRead result (S.last_failed source.new) }
+{
+    let mut piece = [0u8; PIECE];
+    'pieces: loop {
+        let count = source.read(&mut piece)?;
+        if count == 0 {
+            return Ok(reader.end_text()?);
+        }
+        reader.take_piece(&piece[..count])?;
+    }
+}
+
 /// Reads a problem text to its end, to its first fault or to a failed read.
 pub fn read_problem<P: Source>(alloc: Global, problem: &mut P) -> Result<Problem, ReadError>
     requires { P.failures problem.old < 2 ^ 64 - 1 }
@@ -83,16 +180,7 @@ pub fn read_problem<P: Source>(alloc: Global, problem: &mut P) -> Result<Problem
 {
     // A fault that is decided is that of the whole text.
     decided_for_all();
-    let mut reader = ProblemReader::new(alloc);
-    let mut piece = [0u8; PIECE];
-    'pieces: loop {
-        let count = problem.read(&mut piece)?;
-        if count == 0 {
-            break;
-        }
-        reader.feed(&piece[..count])?;
-    }
-    Ok(reader.finish()?)
+    read_text(ProblemReader::new(alloc), problem)
 }
 
 /// Reads an answer to a problem of so many nodes and arcs in the same way.
@@ -116,14 +204,5 @@ pub fn read_answer<A: Source>(
 {
     // A fault that is decided is that of the whole text.
     answer_decided_for_all();
-    let mut reader = AnswerReader::new(alloc, nodes, arcs);
-    let mut piece = [0u8; PIECE];
-    'pieces: loop {
-        let count = answer.read(&mut piece)?;
-        if count == 0 {
-            break;
-        }
-        reader.feed(&piece[..count])?;
-    }
-    Ok(reader.finish()?)
+    read_text(AnswerReader::new(alloc, nodes, arcs), answer)
 }

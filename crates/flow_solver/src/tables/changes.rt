@@ -15,9 +15,9 @@ use crate::answer::judge;
 use crate::balance::{carry_back, cost_now};
 use crate::edit::{added_row, arc_of, edited_row, edited_supply, nearest};
 use crate::part::{Part, part_of};
-use crate::settle::settle;
+use crate::settle::push_and_raise;
 use crate::verdict::Verdict;
-use augmentation::prepare;
+use augmentation::{mark_cut, prepare};
 use dimacs_text::{ArcRow, Edit, GROUP_LIMIT};
 use network::reduced_by;
 
@@ -33,12 +33,20 @@ impl Tables {
         ensures kept { self.new.kept ≡ self.old.kept }
     {
         self.before.verdict = None;
-        let pushes = settle(
+        let pushed = push_and_raise(
             &self.graph,
             &mut self.flow,
             &mut self.potentials,
             &mut self.balance.excess,
             &mut self.scratch,
+        );
+        self.potentials.greatest = true;
+        mark_cut(
+            &self.graph,
+            &self.flow,
+            &self.balance.excess,
+            &mut self.scratch,
+            pushed.are_marked,
             &mut self.cut,
         );
         self.verdict = judge(
@@ -47,7 +55,9 @@ impl Tables {
             &self.flow,
             &self.balance,
         );
-        pushes
+        // Edits list the nodes that they touch, balanced ones too.
+        self.balance.excess.tidy();
+        pushed.count
     }
 
     /// Applies an edit that the instance accepts, and answers the new instance from where the flow stands: the flow of
