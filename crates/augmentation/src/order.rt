@@ -13,42 +13,23 @@ const NO_CHANGE: u32 = u32::MAX;
 /// How many steps may be taken for each node and each change, hops of circles counted in.
 const STEPS: u64 = 400;
 
-/// What a walk back along changes knows of a node.
-#[derive(Clone, Copy)]
-struct Stop {
-    /// The place of the first change that may still bring something to the node; the others follow by `next`.
-    first: u32,
-    state: Visit,
-}
-
-/// How far the walk is with a node.
-#[derive(Clone, Copy)]
+/// How far a walk back along changes is with a node.
+#[derive(Clone, Copy, PartialEq, Eq)]
 enum Visit {
     /// It has not come there, or has gone back from there.
     Open,
-    /// The node has this place on it.
-    OnWalk(u32),
+    OnWalk,
     /// Nothing more comes to the node, which has its rank.
     Ranked,
 }
-
-/// A node to which no change leads, and no walk came.
-const UNTOUCHED: Stop = Stop {
-    first: NO_CHANGE,
-    state: Visit::Open,
-};
-
-/// What stands for a node that is not there: no walk goes on to it.
-const MISSING: Stop = Stop {
-    first: NO_CHANGE,
-    state: Visit::Ranked,
-};
 
 /// Walks back along the changes of a flow, depth first, in which a node gets its rank when nothing more comes to it: so a
 /// change comes from a node of lower rank. The tables have one entry a node, and are seen as how many these are.
 #[derive(Drop)]
 pub struct Order {
-    stops: Vec<Stop>,
+    states: Vec<Visit>,
+    /// The rank of each node that has one; of any other the place of the first change that may still bring something to
+    /// it, which the others follow by `next`.
     ranks: Vec<u32>,
     /// The nodes of the walk: the first change of each brings something from the next one.
     walk: Vec<u32>,
@@ -128,11 +109,11 @@ impl Order {
     pub fn new(alloc: Global, entries: usize) -> Result<Order, AllocError>
         ensures { IfOk result (λ o. o ≡ entries) }
     {
-        let stops = vec![in alloc; UNTOUCHED; entries]?;
-        let ranks = vec![in alloc; 0; entries]?;
+        let states = vec![in alloc; Visit::Open; entries]?;
+        let ranks = vec![in alloc; NO_CHANGE; entries]?;
         let walk = Vec::with_capacity(alloc, entries)?;
         Ok(Order {
-            stops,
+            states,
             ranks,
             walk,
             ranked: 0,
@@ -201,8 +182,8 @@ impl Order {
                 return;
             };
             if let Some((_, node)) = ends_of(graph, flow, &changes[j]) {
-                changes[j].next = self.stop(node).first;
-                self.set_first(node, place);
+                changes[j].next = self.first(node);
+                self.set_number(node, place);
             }
         }
     }
@@ -217,7 +198,7 @@ impl Order {
     ) -> bool
         ensures { self.new ≡ self.old }
     {
-        if self.is_ranked(node) {
+        if self.state(node) == Visit::Ranked {
             return true;
         }
         self.walk.clear();
@@ -245,8 +226,8 @@ impl Order {
         };
         let node = *last;
         match self.next_from(graph, flow, changes, node) {
-            Some(from) => match self.stop(from).state {
-                Visit::OnWalk(place) => self.take_off_circle(flow, changes, place as usize),
+            Some(from) => match self.state(from) {
+                Visit::OnWalk => self.take_off_circle(flow, changes, from),
                 _ => self.enter(from),
             },
             None => self.rank(node),
@@ -265,13 +246,13 @@ impl Order {
         ensures { self.new ≡ self.old }
     {
         for _ in 0..changes.len() {
-            let change = changes.get(self.stop(node).first as usize)?;
+            let change = changes.get(self.first(node) as usize)?;
             if let Some((from, _)) = ends_of(graph, flow, change) {
-                if !self.is_ranked(from) {
+                if self.state(from) != Visit::Ranked {
                     return Some(from);
                 }
             }
-            self.set_first(node, change.next);
+            self.set_number(node, change.next);
         }
         None
     }
@@ -280,12 +261,9 @@ impl Order {
     fn enter(&mut self, node: u32)
         ensures { self.new ≡ self.old }
     {
-        let Ok(place) = u32::try_from(self.walk.len()) else {
-            return;
-        };
         if self.walk.len() < self.walk.capacity() {
             self.walk.push_reserved(node);
-            self.set_state(node, Visit::OnWalk(place));
+            self.set_state(node, Visit::OnWalk);
         }
     }
 
@@ -293,26 +271,37 @@ impl Order {
     fn rank(&mut self, node: u32)
         ensures { self.new ≡ self.old }
     {
-        if let Some(rank) = self.ranks.get_mut(node as usize) {
-            *rank = self.ranked;
-        }
+        self.set_number(node, self.ranked);
         self.ranked = self.ranked.saturating_add(1);
         self.set_state(node, Visit::Ranked);
         let _ = self.walk.pop();
     }
 
-    /// Takes what goes round the circle that the walk's nodes from one on form off the changes, and goes back to the first
-    /// of them whose change is done with that.
-    fn take_off_circle(&mut self, flow: &[i64], changes: &mut [FlowChange], begin: usize)
+    /// Takes what goes round the circle that the walk's nodes from this one on form off the changes, and goes back to the
+    /// first of them whose change is done with that.
+    fn take_off_circle(&mut self, flow: &[i64], changes: &mut [FlowChange], node: u32)
         ensures { self.new ≡ self.old }
     {
         self.has_circles = true;
+        let begin = self.place_of(node);
         let (narrowest, amount) = self.narrowest_from(flow, changes, begin);
         for j in begin..self.walk.len() {
             lessen(flow, changes, self.change_at(j), amount);
             self.fuel = self.fuel.saturating_sub(1);
         }
         self.go_back(narrowest.saturating_add(1));
+    }
+
+    /// The place of a node on the walk, which is looked for from its end: no further than the circle is long.
+    fn place_of(&self, node: u32) -> usize {
+        let last = self.walk.len();
+        for behind in 0..last {
+            let place = last - 1 - behind;
+            if self.walk[place] == node {
+                return place;
+            }
+        }
+        last
     }
 
     /// The place on the walk, from one on, of the change that is the nearest to the flow that stands, and how far that is.
@@ -343,39 +332,41 @@ impl Order {
     /// The change that brings something to the walk's node at a place.
     fn change_at(&self, j: usize) -> u32 {
         match self.walk.get(j) {
-            Some(node) => self.stop(*node).first,
+            Some(node) => self.first(*node),
             None => NO_CHANGE,
         }
     }
 
-    /// What is known of a node.
-    fn stop(&self, node: u32) -> Stop {
-        match self.stops.get(node as usize) {
-            Some(stop) => *stop,
-            None => MISSING,
+    /// How far the walk is with a node; with one that is not there it is done.
+    fn state(&self, node: u32) -> Visit {
+        match self.states.get(node as usize) {
+            Some(state) => *state,
+            None => Visit::Ranked,
         }
     }
 
-    /// Whether a node has its rank.
-    fn is_ranked(&self, node: u32) -> bool {
-        matches!(self.stop(node).state, Visit::Ranked)
+    /// The place of the first change that may still bring something to a node without a rank.
+    fn first(&self, node: u32) -> u32 {
+        match self.ranks.get(node as usize) {
+            Some(first) => *first,
+            None => NO_CHANGE,
+        }
     }
 
     /// Forgets what is known of a node.
     fn forget(&mut self, node: u32)
         ensures { self.new ≡ self.old }
     {
-        if let Some(stop) = self.stops.get_mut(node as usize) {
-            *stop = UNTOUCHED;
-        }
+        self.set_state(node, Visit::Open);
+        self.set_number(node, NO_CHANGE);
     }
 
-    /// Notes the first change that may still bring something to a node.
-    fn set_first(&mut self, node: u32, first: u32)
+    /// Notes the rank of a node, or else the first change that may still bring something to it.
+    fn set_number(&mut self, node: u32, number: u32)
         ensures { self.new ≡ self.old }
     {
-        if let Some(stop) = self.stops.get_mut(node as usize) {
-            stop.first = first;
+        if let Some(stands) = self.ranks.get_mut(node as usize) {
+            *stands = number;
         }
     }
 
@@ -383,8 +374,8 @@ impl Order {
     fn set_state(&mut self, node: u32, state: Visit)
         ensures { self.new ≡ self.old }
     {
-        if let Some(stop) = self.stops.get_mut(node as usize) {
-            stop.state = state;
+        if let Some(stands) = self.states.get_mut(node as usize) {
+            *stands = state;
         }
     }
 }

@@ -9,7 +9,7 @@ ghost use Rattle.augmentation.specs.Pushes.{HavePushed};
 
 use crate::excess::Excess;
 use crate::pushes::{push_to, push_to_all};
-use crate::scratch::Scratch;
+use crate::scratch::{Scratch, open};
 use residual_graph::Graph;
 use shortest_paths::search_from_excess;
 use tracked::Tracked;
@@ -62,6 +62,11 @@ fn search_on(
     if !excess.has_both() {
         return None;
     }
+    open(
+        &mut scratch.predecessors,
+        &mut scratch.queue,
+        scratch.potentials.len(),
+    );
     search_from_excess(
         graph,
         flow.entries(),

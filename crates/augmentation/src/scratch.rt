@@ -1,6 +1,7 @@
 //! The tables that searches write in.
 
-ghost use Rattle.std.specs.Prelude.{◌≡◌, ◌≤◌, IfOk, IsTrue, length, true};
+ghost use Rattle.std.specs.Prelude.{◌≡◌, ◌≤◌, ◌⊎◌, IfOk, IsTrue, length, true, vec_capacity};
+ghost use Rattle.containers.specs.Queue.{HasRoomFor};
 ghost use Rattle.residual_graph.specs.Graph.{HasEntries};
 ghost use Rattle.residual_graph.specs.Limits.{row_limit};
 ghost use Rattle.residual_graph.specs.Residual.{IsPseudoflow, IsReducedCostOptimal};
@@ -27,7 +28,8 @@ use tracked::Touched;
 /// Tables with one entry a node. Between two calls nothing is known of them but their size.
 #[derive(Drop)]
 pub struct Scratch {
-    /// How the last search came to each node.
+    /// How the last search of the finish came to each node. These tables are opened when it searches first: until then
+    /// their room is not touched.
     pub(crate) predecessors: Vec<Predecessor>,
     /// The nodes to which a search may come next.
     pub(crate) queue: Queue,
@@ -60,6 +62,22 @@ impl Model for Scratch {
     ghost invariant = { IsScratch };
 }
 
+/// Makes tables of so many nodes in the room that there is, unless they are as long.
+pub(crate) fn open(predecessors: &mut Vec<Predecessor>, queue: &mut Queue, nodes: usize)
+    requires predecessors { (length predecessors.old.items ≡ nodes) ⊎ (nodes ≤ vec_capacity predecessors.old) }
+    requires queue { HasRoomFor queue.old nodes }
+    ensures predecessors { length predecessors.new.items ≡ nodes }
+    ensures queue { length queue.new.entries ≡ nodes }
+{
+    queue.open(nodes);
+    if predecessors.len() == nodes {
+        return;
+    }
+    let Ok(()) = predecessors.resize(nodes, Predecessor::open()) else {
+        unreachable!()
+    };
+}
+
 impl Scratch {
     /// Tables for so many entries and arcs.
     ///
@@ -70,7 +88,7 @@ impl Scratch {
         ensures sized { IfOk result (λ s. length s.potentials ≡ entries) }
         ensures lost { IfOk result (λ s. s.held.is_lost ≡ true) }
     {
-        let predecessors = vec![in alloc; Predecessor::open(); entries as usize];
+        let predecessors = Vec::with_capacity(alloc, entries as usize);
         let queue = Queue::new(alloc, entries);
         let trails = Trails::new(alloc, entries as usize);
         let potentials = vec![in alloc; 0; entries as usize];
@@ -195,6 +213,11 @@ impl Scratch {
         ensures same { self.new ≡ record self.old { predecessors = self.new.predecessors } }
         ensures paths { IsSearch graph.now.rows flow.now self.old.potentials self.new.predecessors }
     {
+        open(
+            &mut self.predecessors,
+            &mut self.queue,
+            self.potentials.len(),
+        );
         search_levels(
             graph,
             flow,
@@ -237,6 +260,11 @@ impl Scratch {
         ensures held { self.new.held ≡ self.old.held }
         ensures shortest { AreShortest graph.now.rows flow.now self.new.potentials }
     {
+        open(
+            &mut self.predecessors,
+            &mut self.queue,
+            self.potentials.len(),
+        );
         search_labels(
             graph,
             flow,
