@@ -8,13 +8,14 @@ use Rattle.std.proofs.lemmas.List.{get_or_past}
 use Rattle.dimacs_text.specs.declared.problem.ArcRow.{ArcRow}
 use Rattle.residual_graph.specs.declared.residual.Way.{Way}
 use Rattle.residual_graph.specs.declared.residual.Way.TheVariants.{Forward, Backward}
+use Rattle.network.specs.Flow.{reduced_cost}
 use Rattle.residual_graph.specs.Residual.{IsPseudoflow, end_at, end_of, number_at, room_of, row_at, start_at, start_of}
 use Rattle.residual_graph.proofs.RowLemmas.{start_of-in}
 use Rattle.residual_graph.specs.Walk.{end_way}
 use Rattle.shortest_paths.specs.declared.predecessor.Predecessor.{Predecessor}
 use Rattle.shortest_paths.specs.Tree.{AreArcsNoted, HeldView, IsArcNoted}
 use Rattle.tracked.specs.Touched.{NameChanges}
-use Rattle.shortest_paths.specs.Predecessor.{ComesAlong, IsTracedAt, arc_to, predecessor_at, rank_at, reduced_by, way_to}
+use Rattle.shortest_paths.specs.Predecessor.{ComesAlong, IsTracedAt, arc_to, predecessor_at, rank_at, row_along, way_to}
 use Rattle.augmentation.specs.Certificate.{AreInRange, KeepsRow}
 use Rattle.tracked.specs.Marks.{in_set}
 use Rattle.augmentation.specs.Held.{AreTested, AreMarkedChanges, AreNotedChanges, AreTestedThere, HoldsAlong, HoldsAt, AreHeld, IsHeldIn, IsInLabelRange}
@@ -64,7 +65,7 @@ comes_still a x y p q s t v flow same label start before comes =
       has_room = subst (λ (w : Way). pos 0 <ℤ room_of a y w) way (subst (λ (z : ℤ). pos 0 <ℤ room_of a z (way_to s v)) (sym flow) comes.has_room);
       ends = subst (λ (w : Way). end_of a w ≡ v) way comes.ends;
       lower = subst (λ (w : Way). rank_at t (start_of a w) < rank_at t v) way (omega (arith, comes.lower, rank, rank_before));
-      tight = subst (λ (w : Way). reduced_by a q w ≡ pos 0) way (omega (arith, ints, comes.tight, start, end_label));
+      tight = subst (λ (w : Way). reduced_cost (number_at q) (row_along a w) ≡ pos 0) way (omega (arith, ints, comes.tight, start, end_label));
     }
 
 -- ---- what changed, and what is tested

@@ -1,6 +1,7 @@
 //! Containers of nodes and of other places of tables, and tables that are made together.
 #![tactic(auto)]
 
+mod frontier;
 mod heap;
 mod nodes;
 mod noted;
@@ -8,9 +9,10 @@ mod pairs;
 mod places;
 mod queue;
 
+pub use frontier::{FAR, Frontier, State};
 pub use heap::{Entry, Heap};
 pub use nodes::Nodes;
 pub use noted::Noted;
 pub use pairs::both;
-pub use places::Places;
+pub use places::{NO_PLACE, Places};
 pub use queue::{Queue, Waiting};

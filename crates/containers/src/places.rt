@@ -2,6 +2,9 @@
 
 use std::alloc::{AllocError, Global};
 
+/// The place of no arc.
+pub const NO_PLACE: u32 = u32::MAX;
+
 /// Places in the order in which they came, as many as there was room asked for: one more is not listed. The room is
 /// touched only where places are listed.
 #[derive(Drop)]

@@ -5,9 +5,8 @@ ghost use Rattle.std.specs.Prelude.{◌≡◌, ◌<◌, IfSome, length};
 use crate::look::Incoming;
 use crate::record::NodeRecord;
 use crate::search::Search;
-use containers::Nodes;
+use containers::{NO_PLACE, Nodes, State};
 use relaxation::{Proposal, seen};
-use two_sided::{NO_PLACE, State};
 
 impl Search {
     /// Lowers the potentials of the nodes that were settled, so that the paths to them are tight, and pushes from nodes in

@@ -1,6 +1,6 @@
 //! What a search knows of a node.
 
-use two_sided::NO_PLACE;
+use containers::NO_PLACE;
 
 /// What a search and the walks after it know of a node.
 #[derive(Clone, Copy)]

@@ -5,12 +5,11 @@ ghost use Rattle.relaxation.specs.Links.{LeadTo};
 
 use crate::record::NodeRecord;
 use crate::walk::Walk;
-use containers::{Nodes, both};
+use containers::{FAR, Frontier, NO_PLACE, Nodes, State, both};
 use relaxation::{Proposal, seen};
 use residual_ends::Link;
 use std::alloc::{AllocError, Global};
 use std::marker::Model;
-use two_sided::{FAR, Frontier, NO_PLACE, State};
 
 /// How far a path over an arc that searches do not use is said to reach: further than any other. It is less than the greatest
 /// number, since against that a compiler makes a test of it, which processors often predict wrongly: with one, proposals of

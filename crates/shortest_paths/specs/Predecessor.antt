@@ -1,7 +1,8 @@
 -- How a search came to nodes, or how nodes got labels: by the residual arc from a node of lower rank
 -- (Ahuja, Magnanti, Orlin, "Network Flows": shortest path trees, predecessor indices).
-use Rattle.std.specs.Prelude.{◌≡◌, ℕ, ◌<◌, ◌/◌, ℤ, pos, neg_ℤ, ◌-ℤ◌, ◌+ℤ◌, ◌<ℤ◌, ◌≤ℤ◌, ◌⊎◌, List, length, slice_index_or, true, false}
+use Rattle.std.specs.Prelude.{◌≡◌, ℕ, ◌<◌, ◌/◌, ℤ, pos, neg_ℤ, ◌<ℤ◌, ◌≤ℤ◌, ◌⊎◌, List, length, slice_index_or, true, false}
 use Rattle.dimacs_text.specs.declared.problem.ArcRow.{ArcRow}
+use Rattle.network.specs.Flow.{reduced_cost}
 use Rattle.residual_graph.specs.declared.residual.ResidualArc.{ResidualArc}
 use Rattle.residual_graph.specs.declared.residual.Way.{Way}
 use Rattle.residual_graph.specs.Residual.{cost_of, end_of, number_at, room_of, row_at, start_of}
@@ -38,12 +39,13 @@ pub record AreBounded (bound : ℕ) (p : List ℤ) : Type 0 where
   pub at_most : (v : ℕ) → number_at p v ≤ℤ pos bound
   pub at_least : (v : ℕ) → neg_ℤ (pos bound) ≤ℤ number_at p v
 
--- the cost of a residual arc less what the potentials pay for it
-abbrev pub reduced_by : ArcRow → List ℤ → Way → ℤ
-reduced_by a p way = (cost_of a way +ℤ number_at p (start_of a way)) -ℤ number_at p (end_of a way)
+-- an arc that leads as the residual arc in this way along an arc does, at its cost
+abbrev pub row_along : ArcRow → Way → ArcRow
+row_along a way = record a { tail = start_of a way; head = end_of a way; cost = cost_of a way }
 
+-- the reduced cost of the residual arc in this way along arc k
 abbrev pub reduced_at : List ArcRow → List ℤ → ℕ → Way → ℤ
-reduced_at arcs p k way = reduced_by (row_at arcs k) p way
+reduced_at arcs p k way = reduced_cost (number_at p) (row_along (row_at arcs k) way)
 
 -- along an arc with this row and this flow, the residual arc that is told leads from a node of lower rank to node v, and its
 -- cost is the difference of their labels
@@ -51,7 +53,7 @@ pub record ComesAlong (a : ArcRow) (x : ℤ) (q : List ℤ) (t : List Predecesso
   pub has_room : pos 0 <ℤ room_of a x (way_to t v)
   pub ends : end_of a (way_to t v) ≡ v
   pub lower : rank_at t (start_of a (way_to t v)) < rank_at t v
-  pub tight : reduced_by a q (way_to t v) ≡ pos 0
+  pub tight : reduced_cost (number_at q) (row_along a (way_to t v)) ≡ pos 0
 
 -- the label of node v is 0, or comes along the residual arc that is told
 abbrev pub IsTracedAt : List ArcRow → List ℤ → List ℤ → List Predecessor → ℕ → Type 0

@@ -9,5 +9,5 @@ pub record AreTables (t : Inside) : Type 0 where
   pub held_sized : length t.labels.kept ≡ length t.labels.entries
   pub held_predecessors_sized : length t.predecessors.kept ≡ length t.labels.entries
   pub beside_sized : length t.beside ≡ length t.labels.entries
-  pub agenda_sized : t.agenda ≡ length t.labels.entries
+  pub frontier_sized : t.frontier ≡ length t.labels.entries
   pub few : length t.labels.entries ≤ row_limit

@@ -17,7 +17,6 @@ pub(crate) struct Joint {
     /// Whether the residual arc has room, and whether the one back to that node has.
     pub is_open: bool,
     pub is_open_back: bool,
-    pub is_reached: bool,
     /// The first node that hangs on it.
     pub first: u32,
     /// The nodes behind it and before it among those that hang on the same node.
@@ -32,7 +31,6 @@ const ALONE: Joint = Joint {
     cost: 0,
     is_open: false,
     is_open_back: false,
-    is_reached: false,
     first: 0,
     next: 0,
     before: 0,
@@ -70,27 +68,13 @@ impl Forest {
         let _filled = self.joints.resize(self.joints.capacity(), ALONE);
     }
 
-    /// Has all nodes count as not reached.
-    pub fn part(&mut self) {
-        for v in 0..self.joints.len() {
-            self.joints[v].is_reached = false;
-        }
-    }
-
     /// How a node hangs.
     #[inline(always)]
     pub fn joint(&self, v: u32) -> Joint {
-        if (v as usize) < self.joints.len() {
-            self.joints[v as usize]
-        } else {
-            ALONE
+        match self.joints.get(v as usize) {
+            Some(joint) => *joint,
+            None => ALONE,
         }
-    }
-
-    /// Whether a node was reached; one that is none was.
-    #[inline(always)]
-    pub fn is_reached(&self, v: u32) -> bool {
-        (v as usize) >= self.joints.len() || self.joints[v as usize].is_reached
     }
 
     /// Has a node hang by the residual arc that leaves at this end, and by no other.
@@ -109,10 +93,17 @@ impl Forest {
         }
         joint.before = 0;
         joint.next = self.joint(joint.above).first;
-        self.put(v, joint);
-        if joint.above != 0 {
-            self.set_before(joint.next, v);
-            self.set_first(joint.above, v);
+        if let Some(own) = self.joints.get_mut(v as usize) {
+            *own = joint;
+        }
+        if joint.above == 0 {
+            return;
+        }
+        if let Some(next) = self.joints.get_mut(joint.next as usize) {
+            next.before = v;
+        }
+        if let Some(above) = self.joints.get_mut(joint.above as usize) {
+            above.first = v;
         }
     }
 
@@ -122,43 +113,15 @@ impl Forest {
         if joint.above == 0 {
             return;
         }
-        if joint.before == 0 {
-            self.set_first(joint.above, joint.next);
-        } else {
-            self.set_next(joint.before, joint.next);
+        if let Some(next) = self.joints.get_mut(joint.next as usize) {
+            next.before = joint.before;
         }
-        self.set_before(joint.next, joint.before);
-    }
-
-    fn put(&mut self, v: u32, joint: Joint) {
-        if (v as usize) < self.joints.len() {
-            self.joints[v as usize] = joint;
-        }
-    }
-
-    fn set_first(&mut self, v: u32, first: u32) {
-        if (v as usize) < self.joints.len() {
-            self.joints[v as usize].first = first;
-        }
-    }
-
-    fn set_next(&mut self, v: u32, next: u32) {
-        if (v as usize) < self.joints.len() {
-            self.joints[v as usize].next = next;
-        }
-    }
-
-    fn set_before(&mut self, v: u32, before: u32) {
-        if (v as usize) < self.joints.len() {
-            self.joints[v as usize].before = before;
-        }
-    }
-
-    /// Notes that a node was reached.
-    #[inline(always)]
-    pub fn reach(&mut self, v: u32) {
-        if (v as usize) < self.joints.len() {
-            self.joints[v as usize].is_reached = true;
+        if joint.before != 0 {
+            if let Some(before) = self.joints.get_mut(joint.before as usize) {
+                before.next = joint.next;
+            }
+        } else if let Some(above) = self.joints.get_mut(joint.above as usize) {
+            above.first = joint.next;
         }
     }
 }

@@ -5,7 +5,6 @@
 //! entry a row of the graph. Flow and excess are in units of flow; costs, potentials and labels in cost a unit of flow.
 #![tactic(auto)]
 
-mod agenda;
 mod forest;
 mod labels;
 mod levels;

@@ -1,10 +1,11 @@
 //! How nodes got their labels.
 
 ghost use Rattle.std.specs.Prelude.{◌≡◌, ◌<◌, IsTrue, length};
+ghost use Rattle.network.specs.Flow.{reduced_cost};
 ghost use Rattle.shortest_paths.specs.Limits.{label_floor};
 ghost use Rattle.residual_graph.specs.Limits.{potential_floor};
-ghost use Rattle.residual_graph.specs.Residual.{AreGreatest, ArePotentials, IsPseudoflow, IsRow, IsWithinRow};
-ghost use Rattle.shortest_paths.specs.Predecessor.{AllTraced, AreBounded, ComesAlong, IsTracedAt, arc_from, open_node, reduced_by, root_node};
+ghost use Rattle.residual_graph.specs.Residual.{AreGreatest, ArePotentials, IsPseudoflow, IsRow, IsWithinRow, number_at};
+ghost use Rattle.shortest_paths.specs.Predecessor.{AllTraced, AreBounded, ComesAlong, IsTracedAt, arc_from, open_node, root_node, row_along};
 
 use dimacs_text::ArcRow;
 use network::reduced_cost;
@@ -133,7 +134,7 @@ fn comes_along(
 pub fn reduced_along(row: &ArcRow, labels: &[i64], way: Way) -> i64
     requires row { IsRow (length labels.now) row.now }
     requires labels { AreBounded potential_floor labels.now }
-    ensures { result ≡ reduced_by row.now labels.now way }
+    ensures { result ≡ reduced_cost (number_at labels.now) (row_along row.now way) }
 {
     let start = way.start(row) as usize;
     let end = way.end(row) as usize;

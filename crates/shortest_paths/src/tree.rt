@@ -11,12 +11,11 @@ mod joining;
 mod near;
 mod whole;
 
-use crate::agenda::Agenda;
 use crate::forest::Forest;
 use crate::predecessor::Predecessor;
 use crate::residual_network::Residual;
 use crate::step::{Step, across};
-use containers::both;
+use containers::{Frontier, State, both};
 use residual_graph::Graph;
 use std::alloc::{AllocError, Global};
 use std::marker::Model;
@@ -25,8 +24,8 @@ use tracked::{Touched, Tracked};
 /// The label of a node that is loose: any other is lower, also where a cost is taken off this one.
 const FAR: i64 = i64::MAX / 2;
 
-/// At most so many times as many nodes are settled as there are nodes, some of them again.
-const MOST_SETTLED: usize = 4;
+/// At most so many times as many nodes are scanned as there are nodes, some of them again.
+const MOST_SCANNED: usize = 4;
 
 /// Where more than one arc in so many would have to be noted, all labels are tested.
 const MOST_NOTED: usize = 16;
@@ -59,8 +58,12 @@ pub struct Tree {
     /// What is taken off the potentials that are likely to certify, so that none is above 0.
     taken_off: i64,
     loose: Vec<u32>,
-    /// The nodes that have a label and are to be settled. A node's key is how far its label is above its potential.
-    agenda: Agenda,
+    /// The nodes that have a label and are to be scanned. A node's key is how far its label is above its potential.
+    frontier: Frontier,
+    /// The key of those of them that are settled: none that waits has a lower one.
+    last: i64,
+    /// How many of them wait.
+    waiting: usize,
     forest: Forest,
 }
 
@@ -111,11 +114,11 @@ impl Tree {
         let noted = Touched::new(alloc, arcs.min(MOST_ROWS));
         let beside = Touched::new(alloc, entries);
         let loose = Vec::with_capacity(alloc, entries);
-        let agenda = Agenda::new(alloc, entries);
+        let frontier = Frontier::opened(alloc, entries);
         let forest = Forest::new(alloc, entries);
-        let (((labels, predecessors), (noted, beside)), ((loose, agenda), forest)) = both(
+        let (((labels, predecessors), (noted, beside)), ((loose, frontier), forest)) = both(
             both(both(labels, predecessors), both(noted, beside)),
-            both(both(loose, agenda), forest),
+            both(both(loose, frontier), forest),
         )?;
         Ok(Tree {
             labels,
@@ -125,7 +128,9 @@ impl Tree {
             knowledge: Knowledge::Nothing,
             taken_off: 0,
             loose,
-            agenda,
+            frontier,
+            last: 0,
+            waiting: 0,
             forest,
         })
     }
@@ -271,12 +276,12 @@ impl Tree {
         if self.labels.entries().len() != nodes || residual.ends.entries() != nodes {
             return false;
         }
-        self.agenda.clear();
+        self.begin();
         self.forest.clear();
         for v in 0..nodes {
             self.wait(residual, v as u32, 0, Predecessor::root());
         }
-        self.settle_at_most(residual, nodes * MOST_SETTLED, true)
+        self.scan_at_most(residual, nodes * MOST_SCANNED, true)
     }
 
     /// Mends the tree where arcs are noted or are among these, also where nothing is held. Says whether all labels may be right
@@ -388,7 +393,10 @@ impl Tree {
         for i in 0..ends.links.len() {
             let link = ends.links[i];
             let by = lowered(self.labels.get(link.other as usize), link.cost);
-            if by < label && link.room_back::<true>() > 0 && !self.agenda.waits(link.other) {
+            if by < label
+                && link.room_back::<true>() > 0
+                && self.frontier.state(link.other as usize) != State::Open
+            {
                 label = by;
                 predecessor = self.beyond(link.other, across(ends.numbers[i]));
                 if label <= least {
@@ -407,32 +415,72 @@ impl Tree {
         ensures sized { IsTreeOf residual.entry self.new }
         ensures held { self.new.held ≡ self.old.held }
     {
-        let key = lowered(label, self.potential(residual, v as usize));
         self.put(v as usize, label, predecessor);
-        self.agenda.add(v, key);
+        let key = self.key(residual, v as usize);
+        let waited = self.frontier.state(v as usize) == State::Open;
+        if self.frontier.line_up(v as usize, key, self.last) {
+            self.waiting = self.waiting.saturating_sub(usize::from(waited));
+        } else if !waited {
+            self.waiting = self.waiting.saturating_add(1);
+        }
     }
 
-    /// Settles nodes that wait, so many at most, and says whether all labels are the last ones. `others_are_last` says whether
-    /// those of the nodes that do not wait are: then the ready ones improve none but others that wait.
-    fn settle_at_most(&mut self, residual: Residual<'_>, most: usize, others_are_last: bool) -> bool
+    /// How far the label of a node is above its potential.
+    #[inline(always)]
+    fn key(&self, residual: Residual<'_>, v: usize) -> i64
+        requires sized { IsTreeOf residual self.now }
+        requires node { v < length residual.potentials.now }
+    {
+        lowered(self.labels.get(v), self.potential(residual, v))
+    }
+
+    /// Has no node wait. None is to come with a key below 0.
+    fn begin(&mut self)
+        ensures { self.new ≡ self.old }
+    {
+        self.frontier.forget();
+        self.last = 0;
+        self.waiting = 0;
+    }
+
+    /// Takes a node of the least key.
+    #[inline(always)]
+    fn take(&mut self, residual: Residual<'_>) -> Option<usize>
+        requires sized { IsTreeOf residual self.old }
+        ensures kept { self.new ≡ self.old }
+        ensures node { IfSome result (λ v. v < length residual.entry.potentials.now) }
+    {
+        let ready = self.frontier.take_off();
+        if ready.is_some() {
+            return ready;
+        }
+        let u = self.frontier.settle_nearest(i64::MAX)?;
+        self.last = self.key(residual, u);
+        self.waiting = self.waiting.saturating_sub(1);
+        self.frontier.take_off()
+    }
+
+    /// Scans nodes that wait, so many at most, and says whether all labels are the last ones. `others_are_last` says whether
+    /// those of the nodes that do not wait are: then the settled ones improve none but others that wait.
+    fn scan_at_most(&mut self, residual: Residual<'_>, most: usize, others_are_last: bool) -> bool
         requires sized { IsTreeOf residual self.old }
         ensures sized { IsTreeOf residual.entry self.new }
         ensures held { self.new.held ≡ self.old.held }
     {
         for _ in 0..most {
-            if others_are_last && self.agenda.waiting() == 0 {
+            if others_are_last && self.waiting == 0 {
                 return true;
             }
-            let Some(u) = self.agenda.take() else {
+            let Some(u) = self.take(residual) else {
                 return true;
             };
-            self.settle(residual, u);
+            self.scan(residual, u as u32);
         }
         false
     }
 
-    /// Settles a node: improves the labels to which the residual arcs from it lead.
-    fn settle(&mut self, residual: Residual<'_>, u: u32)
+    /// Scans a node: improves the labels to which the residual arcs from it lead.
+    fn scan(&mut self, residual: Residual<'_>, u: u32)
         requires sized { IsTreeOf residual self.old }
         requires node { u < length residual.potentials.now }
         ensures sized { IsTreeOf residual.entry self.new }

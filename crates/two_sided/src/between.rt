@@ -3,8 +3,7 @@
 ghost use Rattle.std.specs.Prelude.{◌≡◌, ◌<◌, ◌^◌, IfSome, IsTrue, length};
 
 use crate::front::{Front, Meeting};
-use crate::length::FAR;
-use containers::{Nodes, Noted, Places, both};
+use containers::{FAR, Nodes, Noted, Places, both};
 use relaxation::Proposal;
 use std::alloc::{AllocError, Global};
 use std::marker::Model;

@@ -4,9 +4,7 @@ ghost use Rattle.std.specs.Prelude.{◌≡◌, ◌<◌, ◌^◌, ℕ, IfOk, IfSo
 ghost use Rattle.relaxation.specs.Limits.{IsWithin, rest_limit};
 ghost use Rattle.two_sided.specs.Keys.{key_limit};
 
-use crate::frontier::{Frontier, State};
-use crate::length::{FAR, NO_PLACE};
-use containers::{Heap, Nodes, Places, both};
+use containers::{FAR, Frontier, Heap, NO_PLACE, Nodes, Places, State, both};
 use relaxation::Proposal;
 use residual_ends::Link;
 use std::alloc::{AllocError, Global};

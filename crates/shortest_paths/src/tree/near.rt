@@ -12,10 +12,10 @@ use crate::step::{Step, across, tail_of};
 /// one.
 const FEW_LOOSE: usize = 64;
 
-/// Where more than one node in so many is loose, or is settled, the whole tree is mended.
+/// Where more than one node in so many is loose, or is scanned, the whole tree is mended.
 const MOST_LOOSE: usize = 8;
 
-/// Once one node in so many is loose, or settled, it is asked whether many nodes moved.
+/// Once one node in so many is loose, or scanned, it is asked whether many nodes moved.
 const SOME_LOOSE: usize = 64;
 
 /// Where more than one node in so many moved, the whole tree is mended.
@@ -31,7 +31,7 @@ impl Tree {
         ensures sized { IsTreeOf residual.entry self.new }
         ensures held { self.new.held ≡ self.old.held }
     {
-        self.agenda.clear();
+        self.begin();
         self.loose.clear();
         for i in 0..self.changed(written) {
             let arc = self.changed_at(written, i);
@@ -48,9 +48,9 @@ impl Tree {
             self.improve_along(residual, across(tail_of(arc)));
         }
         let nodes = residual.potentials.len();
-        self.settle_at_most(residual, nodes / SOME_LOOSE, false)
+        self.scan_at_most(residual, nodes / SOME_LOOSE, false)
             || (!self.have_many_moved(residual)
-                && self.settle_at_most(residual, nodes / MOST_LOOSE, false))
+                && self.scan_at_most(residual, nodes / MOST_LOOSE, false))
     }
 
     /// Loosens the node that hangs on the residual arc that leaves at an end, unless that still leads to it, and its label is

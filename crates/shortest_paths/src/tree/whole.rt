@@ -4,10 +4,11 @@
 ghost use Rattle.std.specs.Prelude.{◌≡◌, ◌<◌, length};
 ghost use Rattle.shortest_paths.specs.Tree.{IsTreeOf};
 
-use super::{FAR, MOST_SETTLED, Tree, entry, lowered, raised};
+use super::{FAR, MOST_SCANNED, Tree, entry, lowered, raised};
 use crate::predecessor::Predecessor;
 use crate::residual_network::Residual;
 use crate::step::{Step, across, tail_of};
+use containers::State;
 
 /// Where more than one node in so many was not reached, residual arcs from nodes that were are looked for.
 const MOST_LEFT: usize = 4;
@@ -24,15 +25,15 @@ impl Tree {
         ensures sized { IsTreeOf residual.entry self.new }
         ensures held { self.new.held ≡ self.old.held }
     {
-        self.agenda.clear();
+        self.begin();
         self.rejoin_rehung(residual);
         self.relabel_all(residual);
         self.reach_tops(residual);
         self.reach_along_all(residual, written);
         self.reach_others(residual);
         self.release_others(residual);
-        let most = residual.potentials.len() * MOST_SETTLED;
-        self.settle_at_most(residual, most, true)
+        let most = residual.potentials.len() * MOST_SCANNED;
+        self.scan_at_most(residual, most, true)
     }
 
     /// Makes the labels the potentials, less the greatest. No arc is at node 0.
@@ -60,13 +61,24 @@ impl Tree {
         ensures sized { IsTreeOf residual.entry self.new }
         ensures held { self.new.held ≡ self.old.held }
     {
-        self.forest.part();
         for v in 0..residual.potentials.len() {
             if self.labels.get(v) >= 0 {
                 self.reach(v as u32, 0, 0);
             }
         }
         self.reach_joined(residual, 0);
+    }
+
+    /// How many nodes were reached: each is settled.
+    fn reached(&self) -> usize {
+        self.frontier.settled().listed().len()
+    }
+
+    /// Whether a node was reached; one that is none was.
+    #[inline(always)]
+    fn is_reached(&self, v: u32) -> bool {
+        let v = v as usize;
+        v >= self.labels.entries().len() || self.frontier.state(v) == State::Settled
     }
 
     /// Reaches nodes along the residual arcs that changed, as long as there is one: along a path of pushes blocks hang
@@ -83,12 +95,12 @@ impl Tree {
             self.reach_along(residual, across(tail_of(arc)));
         }
         for _ in 0..MOST_ROUNDS {
-            let before = self.agenda.ready();
+            let before = self.reached();
             for i in 0..self.loose.len() {
                 let end = entry(&self.loose, i);
                 self.reach_again(residual, end);
             }
-            if self.agenda.ready() == before {
+            if self.reached() == before {
                 return;
             }
         }
@@ -104,13 +116,13 @@ impl Tree {
         let Some(step) = Step::at(residual, end) else {
             return;
         };
-        if self.forest.is_reached(step.far)
+        if self.is_reached(step.far)
             || !step.is_open
             || self.label_by(step) != self.labels.get(step.far as usize)
         {
             return;
         }
-        if self.forest.is_reached(step.start) {
+        if self.is_reached(step.start) {
             self.reach_beyond(residual, step.start, step.far, end);
         } else if self.loose.len() < self.loose.capacity() {
             self.loose.push_reserved(end);
@@ -125,7 +137,7 @@ impl Tree {
         ensures held { self.new.held ≡ self.old.held }
     {
         if let Some(step) = Step::at(residual, end) {
-            if self.forest.is_reached(step.start) {
+            if self.is_reached(step.start) {
                 self.reach_beyond(residual, step.start, step.far, end);
             }
         }
@@ -139,21 +151,21 @@ impl Tree {
         ensures held { self.new.held ≡ self.old.held }
     {
         let nodes = residual.potentials.len();
-        if nodes.saturating_sub(self.agenda.ready()) <= nodes / MOST_LEFT {
+        if nodes.saturating_sub(self.reached()) <= nodes / MOST_LEFT {
             return;
         }
         for place in 0..nodes {
-            let count = self.agenda.ready();
+            let count = self.reached();
             if nodes.saturating_sub(count) < count.saturating_sub(place) {
                 break;
             }
-            let Some(u) = self.agenda.ready_at(place) else {
+            let Some(u) = self.frontier.settled().at(place) else {
                 return;
             };
-            self.reach_at(residual, u);
+            self.reach_at(residual, u as u32);
         }
         for v in 0..nodes {
-            if !self.forest.is_reached(v as u32) {
+            if !self.is_reached(v as u32) {
                 self.reach_at(residual, v as u32);
             }
         }
@@ -174,7 +186,7 @@ impl Tree {
                 continue;
             }
             let end = ends.numbers[i];
-            if self.forest.is_reached(v) {
+            if self.is_reached(v) {
                 if link.room::<true>() > 0 {
                     self.reach_beyond(residual, v, link.other, end);
                 }
@@ -192,10 +204,10 @@ impl Tree {
         ensures sized { IsTreeOf residual.entry self.new }
         ensures held { self.new.held ≡ self.old.held }
     {
-        if self.forest.is_reached(far) || !self.forest.is_reached(start) {
+        if self.is_reached(far) || !self.is_reached(start) {
             return;
         }
-        let place = self.agenda.ready();
+        let place = self.reached();
         let rank = self.rank_beyond(start);
         self.reach(far, end, rank);
         self.reach_joined(residual, place);
@@ -209,7 +221,7 @@ impl Tree {
         ensures held { self.new.held ≡ self.old.held }
     {
         let place = v as usize;
-        if place >= self.labels.entries().len() || self.forest.is_reached(v) {
+        if place >= self.labels.entries().len() || self.is_reached(v) {
             return;
         }
         let before = self.predecessors.get(place);
@@ -221,8 +233,7 @@ impl Tree {
             };
             self.predecessors.set(place, predecessor);
         }
-        self.forest.reach(v);
-        self.agenda.make_ready(v);
+        self.frontier.settle(place);
     }
 
     /// Reaches all that hangs together with the nodes that were reached, from this one on in the order in which they were.
@@ -232,10 +243,10 @@ impl Tree {
         ensures held { self.new.held ≡ self.old.held }
     {
         for place in from..residual.potentials.len() {
-            let Some(v) = self.agenda.ready_at(place) else {
+            let Some(v) = self.frontier.settled().at(place) else {
                 return;
             };
-            self.reach_from(v);
+            self.reach_from(v as u32);
         }
     }
 
@@ -274,20 +285,17 @@ impl Tree {
     }
 
     /// Has the nodes that were not reached wait: with the labels that those which were lead to, where these are most, and else
-    /// with label 0, since the others are settled too.
+    /// with label 0, since the others are scanned too.
     fn release_others(&mut self, residual: Residual<'_>)
         requires sized { IsTreeOf residual self.old }
         ensures sized { IsTreeOf residual.entry self.new }
         ensures held { self.new.held ≡ self.old.held }
     {
         let nodes = residual.potentials.len();
-        let are_few = self.agenda.ready() > nodes / 2;
-        if are_few {
-            self.agenda.clear();
-        }
+        let are_few = self.reached() > nodes / 2;
         self.loose.clear();
         for v in 0..nodes {
-            if self.forest.is_reached(v as u32) {
+            if self.is_reached(v as u32) {
                 continue;
             }
             if !are_few {
@@ -298,6 +306,9 @@ impl Tree {
                 self.put(v, FAR, predecessor);
             }
         }
-        self.hang_all(residual);
+        if are_few {
+            self.begin();
+            self.hang_all(residual);
+        }
     }
 }

@@ -2,9 +2,17 @@
 
 ghost use Rattle.std.specs.Prelude.{◌≡◌, ◌<◌, ◌^◌, ℕ, IfOk, IfSome, IsTrue, length};
 
-use containers::{Heap, Nodes, both};
+use crate::heap::Heap;
+use crate::nodes::Nodes;
+use crate::pairs::both;
 use std::alloc::{AllocError, Global};
 use std::marker::Model;
+
+/// The length of no path.
+pub const FAR: i64 = 4_000_000_000_000_000_000;
+
+/// Where more than one node in so many has a path, those of all nodes are forgotten in one go.
+const MOST_KNOWN: usize = 32;
 
 /// How far a search, and a walk after it, has come with a node.
 #[derive(Clone, Copy, PartialEq, Eq)]
@@ -120,8 +128,14 @@ impl Frontier {
     pub fn forget(&mut self)
         ensures { self.new ≡ self.old }
     {
-        set_states(&mut self.states, &self.settled, State::New);
-        forget_waiting(&mut self.states, &self.heap);
+        let waiting = self.heap.entries().len();
+        let known = waiting.saturating_add(self.settled.listed().len());
+        if known > self.states.len() / MOST_KNOWN {
+            self.states.fill(State::New);
+        } else {
+            set_states(&mut self.states, &self.settled, State::New);
+            forget_waiting(&mut self.states, &self.heap);
+        }
         self.heap.clear();
         self.settled.clear();
     }
@@ -165,6 +179,19 @@ impl Frontier {
         ensures node { IfSome result (λ v. v < self.old) }
     {
         self.settled.take()
+    }
+
+    /// Takes the last settled node that was not taken off the list, so that it may wait again.
+    #[inline(always)]
+    pub fn take_off(&mut self) -> Option<usize>
+        ensures kept { self.new ≡ self.old }
+        ensures node { IfSome result (λ v. v < self.old) }
+    {
+        let v = self.settled.take_off()?;
+        if self.states[v] == State::Settled {
+            self.states[v] = State::New;
+        }
+        Some(v)
     }
 
     /// Settles a node.
