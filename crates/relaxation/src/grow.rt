@@ -112,13 +112,16 @@ pub fn look_on<const AHEAD: bool, const ENDS: bool>(
     ensures reach { reach.new ≡ reach.old }
     ensures met { IfSome result (λ v. v < proposal.now) }
 {
+    let potentials = proposal.potentials();
     let potential = proposal.potential(u);
     let ends = proposal.ends().at(u);
     for (k, link) in ends.links.iter().enumerate() {
         let more = link.room::<AHEAD>();
         let v = link.other as usize;
-        // Few arcs are tight, so a processor seldom guesses wrong here; of those at a node half are open.
-        if proposal.potential(v) != potential + link.cost || more <= 0 || reach.is_inside(v) {
+        // One test of both: of the tight arcs at a node half are open, which a processor can't guess.
+        let off = potentials[v] ^ (potential + link.cost);
+        let shut = more.wrapping_sub(1) >> 63;
+        if off | shut != 0 || reach.is_inside(v) {
             continue;
         }
         let is_new = reach.note(v, ends.first + k as u32, more);
