@@ -64,7 +64,8 @@ impl Model for Scratch {
 
 /// Makes tables of so many nodes in the room that there is, unless they are as long.
 pub(crate) fn open(predecessors: &mut Vec<Predecessor>, queue: &mut Queue, nodes: usize)
-    requires predecessors { (length predecessors.old.items ≡ nodes) ⊎ (nodes ≤ vec_capacity predecessors.old) }
+    requires predecessors { (length predecessors.old.items ≡ nodes)
+        ⊎ (nodes ≤ vec_capacity predecessors.old) }
     requires queue { HasRoomFor queue.old nodes }
     ensures predecessors { length predecessors.new.items ≡ nodes }
     ensures queue { length queue.new.entries ≡ nodes }
