@@ -141,16 +141,8 @@ impl Search {
         ensures { self.new ≡ self.old }
     {
         for v in 0..self.entries() {
-            self.set_gone(v, false);
+            self.records[v].gone = false;
         }
-    }
-
-    /// Leaves a node out of all searches, or takes it into them again.
-    fn set_gone(&mut self, v: usize, gone: bool)
-        requires { v < self.old }
-        ensures { self.new ≡ self.old }
-    {
-        self.records[v].gone = gone;
     }
 
     /// Looks for paths from the nodes in excess until so many nodes in deficit are reached, or none is left to be settled;
@@ -328,7 +320,7 @@ impl Search {
     {
         for v in 0..self.entries() {
             if proposal.is_goal::<AHEAD>(v) && self.frontier.state(v) != State::Settled {
-                self.set_gone(v, true);
+                self.records[v].gone = true;
             }
         }
     }
