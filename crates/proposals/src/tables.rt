@@ -300,7 +300,14 @@ impl Proposals {
         }
         self.returned = None;
         for change in changes {
-            let _same = self.follow_at(rows, flow, change.arc);
+            let k = change.arc as usize;
+            if k >= rows.len() || flow_of(&self.proposal, k, &rows[k], flow[k]) == flow[k] {
+                continue;
+            }
+            if !self.proposal.ends.renew(k, &arc_of(&rows[k], flow[k])) {
+                // Another arc has its number now.
+                self.noted.note(change.arc);
+            }
         }
     }
 
@@ -332,12 +339,7 @@ impl Proposals {
         self.proposal.moved.open();
         self.standing = Standing::InStep;
         self.noted.open();
-        self.follow(rows, flow, &[]);
-        for change in changes {
-            if !self.follow_at(rows, flow, change.arc) {
-                self.noted.note(change.arc);
-            }
-        }
+        self.follow(rows, flow, changes);
         self.load_between();
     }
 
@@ -348,18 +350,6 @@ impl Proposals {
         let entries = self.entries();
         self.between.load(entries);
         self.proposal.ends.put_in_order();
-    }
-
-    /// Brings an arc in step, and says whether it is: not where another arc has its number now.
-    fn follow_at(&mut self, rows: &[ArcRow], flow: &[i64], arc: u32) -> bool
-        requires { length flow.now ≡ length rows.now }
-        ensures { self.new ≡ self.old }
-    {
-        let k = arc as usize;
-        if k >= rows.len() || flow_of(&self.proposal, k, &rows[k], flow[k]) == flow[k] {
-            return true;
-        }
-        self.proposal.ends.renew(k, &arc_of(&rows[k], flow[k]))
     }
 
     /// Notes that a node may have got another potential.
