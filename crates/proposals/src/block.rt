@@ -2,26 +2,14 @@
 
 ghost use Rattle.std.specs.Prelude.{◌≡◌, ◌<◌, IfSome, length};
 
-use crate::look::Incoming;
 use crate::record::NodeRecord;
 use crate::search::Search;
 use containers::{NO_PLACE, Nodes, State};
 use relaxation::{Proposal, seen};
 
 impl Search {
-    /// Lowers the potentials of the nodes that were settled, so that the paths to them are tight, and pushes from nodes in
-    /// excess to each node in deficit among them.
-    pub fn block<const AHEAD: bool>(&mut self, proposal: &mut Proposal, length: i64, renewals: u8)
-        requires { proposal.old ≡ self.old }
-        ensures kept { self.new ≡ self.old }
-        ensures proposal { proposal.new ≡ proposal.old }
-    {
-        self.tighten::<AHEAD>(proposal, length);
-        self.serve_all::<AHEAD>(proposal, renewals);
-    }
-
-    /// Lowers the potentials of the nodes that were settled, so that the paths to them are tight.
-    fn tighten<const AHEAD: bool>(&self, proposal: &mut Proposal, length: i64)
+    /// Lowers the potentials of the nodes that were settled, so that paths of this length or less to them are tight.
+    pub fn tighten<const AHEAD: bool>(&self, proposal: &mut Proposal, length: i64)
         requires { proposal.old ≡ self.now }
         ensures { proposal.new ≡ proposal.old }
     {
@@ -51,7 +39,7 @@ impl Search {
 
     /// Pushes from nodes in excess to each node in deficit that was looked for and settled. To more of them, which the search
     /// came upon at its end, most walks are in vain: they took three times as long in Machol and Wien's assignment.
-    fn serve_all<const AHEAD: bool>(&mut self, proposal: &mut Proposal, renewals: u8)
+    pub fn serve_all<const AHEAD: bool>(&mut self, proposal: &mut Proposal, renewals: u8)
         requires { proposal.old ≡ self.old }
         ensures kept { self.new ≡ self.old }
         ensures proposal { proposal.new ≡ proposal.old }
@@ -72,16 +60,6 @@ impl Search {
         }
     }
 
-    /// Lowers the potentials of the nodes that were settled by the same amount.
-    pub fn set_sides_apart<const AHEAD: bool>(&self, proposal: &mut Proposal, shift: i64)
-        requires { proposal.old ≡ self.now }
-        ensures { proposal.new ≡ proposal.old }
-    {
-        for v in self.frontier.settled().listed() {
-            let _lowered = proposal.lower::<AHEAD>(*v as usize, shift);
-        }
-    }
-
     /// Walks back from a node in deficit to nodes in excess and pushes along the walks, until nothing lacks or no walk is left.
     fn serve<const AHEAD: bool>(&mut self, proposal: &mut Proposal, t: usize, renewals: u8)
         requires proposal { proposal.old ≡ self.old }
@@ -96,7 +74,8 @@ impl Search {
             let next = if proposal.is_root::<AHEAD>(u) {
                 self.push::<AHEAD>(proposal, t, u)
             } else if let Some(step) = self.step_back::<AHEAD>(proposal, u) {
-                self.walk_on(u, step);
+                self.walk.add(u as u32, step.place, step.room);
+                self.frontier.set_state(step.other, State::Walked);
                 Some(step.other)
             } else {
                 self.turn_back::<AHEAD>(proposal, u, renewals)
@@ -106,18 +85,12 @@ impl Search {
             };
             u = next;
         }
-        let _begin = self.leave::<AHEAD>(proposal, u, Leaving::All);
-    }
-
-    /// Goes back from a node along an arc.
-    #[inline(always)]
-    fn walk_on(&mut self, u: usize, step: Incoming)
-        requires node { u < self.old }
-        requires other { step.other < self.old }
-        ensures { self.new ≡ self.old }
-    {
-        self.walk.add(u as u32, step.place, step.room);
-        self.frontier.set_state(step.other, State::Walked);
+        for _ in 0..self.entries() {
+            let Some(before) = self.leave_last::<AHEAD>(proposal, u) else {
+                return;
+            };
+            u = before;
+        }
     }
 
     /// Steps back from a node from which the walk gets no further, and gives the node before it; where the walk began
@@ -173,25 +146,9 @@ impl Search {
             self.frontier.set_state(t, State::Settled);
             return None;
         }
-        Some(self.leave::<AHEAD>(proposal, s, Leaving::Filled))
-    }
-
-    /// Takes arcs off the walk, which stands at a node, from its end on; gives the node at which it then stands.
-    fn leave<const AHEAD: bool>(
-        &mut self,
-        proposal: &mut Proposal,
-        u: usize,
-        leaving: Leaving,
-    ) -> usize
-        requires proposal { proposal.old ≡ self.old }
-        requires node { u < self.old }
-        ensures kept { self.new ≡ self.old }
-        ensures proposal { proposal.new ≡ proposal.old }
-        ensures node { result < self.old }
-    {
-        let mut u = u;
+        let mut u = s;
         for _ in 0..self.entries() {
-            if leaving == Leaving::Filled && proposal.is_open(self.walk.room(i64::MAX)) {
+            if proposal.is_open(self.walk.room(i64::MAX)) {
                 break;
             }
             let Some(before) = self.leave_last::<AHEAD>(proposal, u) else {
@@ -199,7 +156,7 @@ impl Search {
             };
             u = before;
         }
-        u
+        Some(u)
     }
 
     /// Takes the last arc off the walk, which stands at a node, and moves along it what was pushed. Gives the node that the walk
@@ -223,14 +180,6 @@ impl Search {
             None
         }
     }
-}
-
-/// Which arcs a walk leaves.
-#[derive(Clone, Copy, PartialEq, Eq)]
-enum Leaving {
-    All,
-    /// The first one that is filled, and those behind it.
-    Filled,
 }
 
 /// Lets walks begin anew at these nodes.

@@ -2,8 +2,9 @@
 
 ghost use Rattle.std.specs.Prelude.{◌≡◌, ◌<◌};
 
+use crate::scaling::scale;
 use crate::search::Search;
-use crate::solving::{Fuel, Goals, MOST_PAIRS, solve_greatest, take_turns};
+use crate::solving::{Fuel, Goals, MOST_PAIRS, take_turns};
 use relaxation::{Proposal, REST_LIMIT, seen};
 
 /// More than ever lies at a node.
@@ -17,13 +18,17 @@ const TOGETHER: Fuel = Fuel {
 
 /// The same with walks along any tight arcs after each search: so all goes home in a few searches, however long the ways are.
 const HOME: Fuel = Fuel {
-    few: u64::MAX,
+    few: usize::MAX,
     ..TOGETHER
 };
 
 /// So many pairs of searches are made between nodes out of balance before what is left goes home. With none groups in level
 /// graphs took twice as long, with 4 those in stairs did.
 const SOME_PAIRS: usize = 1;
+
+/// Where the sink is further away, a greatest flow is looked for in stages: each push goes a long way, so few large ones
+/// are quicker, though more searches are made. At 530 it took three fifths of the time, at 347 and below nothing was gained.
+const MANY_LEVELS: u32 = 400;
 
 /// Brings a flow that has no return arc to a greatest one. The return arc is held to carry so much more than it does: that lies
 /// at the source, and is lacking at the sink, and what cannot pass stays there. First what other nodes have too much goes where
@@ -48,7 +53,13 @@ pub fn solve_from(
     bring_home::<false>(proposal, search, sink, source);
     proposal.add_rest(source, more);
     proposal.add_rest(sink, more.saturating_neg());
-    solve_greatest(proposal, search);
+    search.start();
+    let _length = search.search::<true>(proposal, usize::MAX);
+    let fuel = Fuel::GREATEST;
+    if search.levels() > MANY_LEVELS {
+        scale(proposal, search, fuel);
+    }
+    let _done = take_turns(proposal, search, &mut Goals::ALL, MOST_PAIRS, fuel);
 }
 
 /// Moves what lies in excess, as a side sees it, to the root of that side. What lies at the two roots is kept apart meanwhile.

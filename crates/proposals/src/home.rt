@@ -1,47 +1,29 @@
 //! What stays out of balance goes home.
 
-ghost use Rattle.std.specs.Prelude.{◌≡◌, ◌<◌, length};
+ghost use Rattle.std.specs.Prelude.{◌≡◌, length};
 ghost use Rattle.relaxation.specs.Limits.{IsWithin, rest_limit};
 
 use crate::search::Search;
+use crate::solving::{Fuel, Goals, MOST_PAIRS, take_turns};
 use relaxation::{Proposal, REST_LIMIT, seen};
 
-impl Search {
-    /// Keeps apart what lies at home, as a side sees it: a node that has more than it had at the start is in excess by so
-    /// much, one that has less is in deficit.
-    pub fn set_apart<const AHEAD: bool>(&mut self, proposal: &mut Proposal, home: &[i64])
-        requires proposal { proposal.old ≡ self.old }
-        requires home { length home.now ≡ self.old }
-        ensures kept { self.new ≡ self.old }
-        ensures proposal { proposal.new ≡ proposal.old }
-    {
-        self.apart.clear();
-        for v in 0..self.entries() {
-            let sent = seen::<AHEAD>(astray::<AHEAD>(proposal.excess::<AHEAD>(v), home[v]));
-            self.keep(proposal.rest(v).saturating_sub(sent));
-            proposal.set_rest(v, sent);
-        }
+/// Sends excess home along shortest paths, as a side sees it: from nodes that have more than at the start to nodes that
+/// had some then and have less now. What lies at home is kept apart meanwhile.
+pub fn give_back<const AHEAD: bool>(proposal: &mut Proposal, search: &mut Search, home: &[i64])
+    requires search { search.old ≡ proposal.old }
+    requires home { length home.now ≡ proposal.old }
+    ensures proposal { proposal.new ≡ proposal.old }
+    ensures search { search.new ≡ search.old }
+{
+    search.apart.clear();
+    for v in 0..proposal.entries() {
+        let sent = seen::<AHEAD>(astray::<AHEAD>(proposal.excess::<AHEAD>(v), home[v]));
+        let _kept = search.apart.push(proposal.rest(v).saturating_sub(sent));
+        proposal.set_rest(v, sent);
     }
-
-    /// Keeps so much apart at the next node.
-    fn keep(&mut self, apart: i64)
-        ensures { self.new ≡ self.old }
-    {
-        if self.apart.len() < self.apart.capacity() {
-            self.apart.push_reserved(apart);
-        }
-    }
-
-    /// Adds what was kept apart.
-    pub fn put_together(&self, proposal: &mut Proposal)
-        requires { proposal.old ≡ self.now }
-        ensures { proposal.new ≡ proposal.old }
-    {
-        for v in 0..self.entries() {
-            if let Some(apart) = self.apart.get(v) {
-                proposal.add_rest(v, *apart);
-            }
-        }
+    let _done = take_turns(proposal, search, &mut Goals::ALL, MOST_PAIRS, Fuel::USUAL);
+    for v in 0..proposal.entries().min(search.apart.len()) {
+        proposal.add_rest(v, search.apart[v]);
     }
 }
 

@@ -24,8 +24,7 @@ pub fn scale(proposal: &mut Proposal, search: &mut Search, fuel: Fuel)
     ensures proposal { proposal.new ≡ proposal.old }
     ensures search { search.new ≡ search.old }
 {
-    let mut fuel = fuel;
-    fuel.apart = 0;
+    let fuel = Fuel { apart: 0, ..fuel };
     let mut least = first_least(proposal);
     for _ in 0..STAGES {
         if least < 2 || fuel.narrowing < 2 {
@@ -97,7 +96,7 @@ fn add_at(table: &mut [u64; STAGES], number: u64, more: u64) {
 pub fn begin_stage(proposal: &mut Proposal, least: u32)
     ensures { proposal.new ≡ proposal.old }
 {
-    proposal.set_least(least);
+    proposal.least = least;
     for v in 0..proposal.entries() {
         fill_at(proposal, v);
     }

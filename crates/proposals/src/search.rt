@@ -48,15 +48,15 @@ pub struct Search {
     /// How many nodes in deficit are looked for, and how many of them are settled.
     pub(crate) goals: usize,
     got: usize,
-    /// How many nodes were settled since counting began.
-    settled_nodes: u64,
+    /// How many nodes searches settled.
+    pub(crate) settled_nodes: u64,
     /// Whether ascents may join searches, and whether they did.
     pub(crate) may_ascend: bool,
     pub(crate) ascended: bool,
     /// How many ends of arcs searches looked at.
     pub(crate) looks: u64,
-    /// How many pushes were made.
-    pub(crate) pushes: u64,
+    /// How many pushes were made after the last search.
+    pub(crate) pushes: usize,
 }
 
 impl Model for Search {
@@ -115,33 +115,6 @@ impl Search {
         })
     }
 
-    /// Counts settled nodes from 0 again.
-    pub fn begin_counting(&mut self)
-        ensures { self.new ≡ self.old }
-    {
-        self.settled_nodes = 0;
-    }
-
-    /// How many nodes were settled since counting began.
-    pub fn settled_nodes(&self) -> u64 {
-        self.settled_nodes
-    }
-
-    /// Lets ascents join searches.
-    pub fn let_ascend(&mut self)
-        ensures { self.new ≡ self.old }
-    {
-        self.may_ascend = true;
-        self.ascended = false;
-    }
-
-    /// Lets ascents join later searches only if they joined those so far.
-    pub fn keep_to_ascents(&mut self)
-        ensures { self.new ≡ self.old }
-    {
-        self.may_ascend = self.ascended;
-    }
-
     /// How many nodes the last search settled.
     pub fn width(&self) -> usize {
         self.frontier.settled().listed().len()
@@ -168,16 +141,8 @@ impl Search {
         ensures { self.new ≡ self.old }
     {
         for v in 0..self.entries() {
-            self.set_gone(v, false);
+            self.records[v].gone = false;
         }
-    }
-
-    /// Leaves a node out of all searches, or takes it into them again.
-    fn set_gone(&mut self, v: usize, gone: bool)
-        requires { v < self.old }
-        ensures { self.new ≡ self.old }
-    {
-        self.records[v].gone = gone;
     }
 
     /// Looks for paths from the nodes in excess until so many nodes in deficit are reached, or none is left to be settled;
@@ -223,21 +188,13 @@ impl Search {
                 continue;
             }
             if proposal.is_root::<AHEAD>(v) {
-                self.begin_at(v, seen::<AHEAD>(proposal.potential(v)));
+                self.open(v, seen::<AHEAD>(proposal.potential(v)), 0, NO_PLACE);
+                self.frontier.settle(v);
             } else if proposal.is_goal::<AHEAD>(v) {
                 goals = goals.saturating_add(1);
             }
         }
         self.goals = if self.width() > 0 { goals.min(most) } else { 0 };
-    }
-
-    /// Begins at a node of this potential.
-    fn begin_at(&mut self, v: usize, potential: i64)
-        requires { v < self.old }
-        ensures { self.new ≡ self.old }
-    {
-        self.open(v, potential, 0, NO_PLACE);
-        self.frontier.settle(v);
     }
 
     /// Writes down a path to a node that reaches so far.
@@ -274,23 +231,15 @@ impl Search {
     {
         self.is_limited = false;
         for v in 0..self.entries() {
-            self.unlimit(v);
+            if self.frontier.state(v) == State::New {
+                self.reaches[v] = FAR;
+            }
         }
         for k in 0..self.entries() {
             let Some(u) = self.frontier.settled().at(k) else {
                 return;
             };
             self.look_on::<AHEAD>(proposal, u);
-        }
-    }
-
-    /// Takes all paths to a node to which none is known.
-    fn unlimit(&mut self, v: usize)
-        requires { v < self.old }
-        ensures { self.new ≡ self.old }
-    {
-        if self.frontier.state(v) == State::New {
-            self.reaches[v] = FAR;
         }
     }
 
@@ -371,7 +320,7 @@ impl Search {
     {
         for v in 0..self.entries() {
             if proposal.is_goal::<AHEAD>(v) && self.frontier.state(v) != State::Settled {
-                self.set_gone(v, true);
+                self.records[v].gone = true;
             }
         }
     }

@@ -51,7 +51,9 @@ impl Search {
             self.pass(proposal, u);
         }
         for v in 0..self.entries() {
-            self.list_other(v);
+            if self.records[v].current > 0 {
+                self.set_count(v, 0);
+            }
         }
     }
 
@@ -62,16 +64,6 @@ impl Search {
     {
         self.records[v].current = count;
         if count == 0 {
-            self.order.add(v);
-        }
-    }
-
-    /// Lists a node if arcs still lead to it.
-    fn list_other(&mut self, v: usize)
-        requires { v < self.old }
-        ensures { self.new ≡ self.old }
-    {
-        if self.records[v].current > 0 {
             self.order.add(v);
         }
     }
@@ -132,7 +124,11 @@ fn lower_in_turn(order: &Nodes, proposal: &mut Proposal) -> bool
 {
     let mut before = usize::MAX;
     for _ in 0..PASSES {
-        let lowered = lower_once(order, proposal);
+        let mut lowered: usize = 0;
+        for v in order.listed() {
+            let more = lower_beyond(proposal, *v as usize);
+            lowered = lowered.saturating_add(more);
+        }
         if lowered == 0 {
             return true;
         }
@@ -142,19 +138,6 @@ fn lower_in_turn(order: &Nodes, proposal: &mut Proposal) -> bool
         before = lowered;
     }
     false
-}
-
-/// Does so once, and gives how often a potential was lowered.
-fn lower_once(order: &Nodes, proposal: &mut Proposal) -> usize
-    requires { order.now ≡ proposal.old }
-    ensures { proposal.new ≡ proposal.old }
-{
-    let mut lowered: usize = 0;
-    for v in order.listed() {
-        let more = lower_beyond(proposal, *v as usize);
-        lowered = lowered.saturating_add(more);
-    }
-    lowered
 }
 
 /// Lowers the potentials of the nodes to which residual arcs of a negative reduced cost lead from a node, and gives how many.

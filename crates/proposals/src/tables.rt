@@ -144,9 +144,10 @@ impl Proposals {
         self.proposal.load_nodes(excess, potentials);
         load_arcs(&mut self.proposal.ends, rows, flow);
         self.returned = None;
-        self.search.let_ascend();
+        self.search.may_ascend = true;
+        self.search.ascended = false;
         self.solve(rows, flow, excess, aim);
-        self.search.keep_to_ascents();
+        self.search.may_ascend = self.search.ascended;
     }
 
     /// Leads the proposal on towards the aim, and looks at all nodes for that.
@@ -155,18 +156,20 @@ impl Proposals {
         requires excess { length excess.now ≡ self.old }
         ensures { self.new ≡ self.old }
     {
-        self.search.begin_counting();
+        let search = &mut self.search;
+        search.settled_nodes = 0;
         match aim {
             Aim::LeastCost => solve(
                 &mut self.proposal,
                 &mut self.ring,
                 &mut self.sets,
-                &mut self.search,
+                search,
                 excess,
             ),
             Aim::GreatestFlow => self.solve_greatest(rows, flow),
         }
-        self.settled = self.search.settled_nodes() / (self.entries() as u64).max(1);
+        let entries = self.entries() as u64;
+        self.settled = self.search.settled_nodes / entries.max(1);
     }
 
     /// Leads the proposal on to a greatest flow, while the return arc, which is the first one, is closed: what goes back over
@@ -268,7 +271,9 @@ impl Proposals {
             return;
         }
         self.noted.open();
-        note_each(&mut self.noted, places);
+        for k in places {
+            self.noted.note(*k);
+        }
     }
 
     /// The ends of arcs at all nodes, with the room that the proposed flow leaves.
@@ -295,7 +300,14 @@ impl Proposals {
         }
         self.returned = None;
         for change in changes {
-            let _same = self.follow_at(rows, flow, change.arc);
+            let k = change.arc as usize;
+            if k >= rows.len() || flow_of(&self.proposal, k, &rows[k], flow[k]) == flow[k] {
+                continue;
+            }
+            if !self.proposal.ends.renew(k, &arc_of(&rows[k], flow[k])) {
+                // Another arc has its number now.
+                self.noted.note(change.arc);
+            }
         }
     }
 
@@ -327,12 +339,7 @@ impl Proposals {
         self.proposal.moved.open();
         self.standing = Standing::InStep;
         self.noted.open();
-        self.follow(rows, flow, &[]);
-        for change in changes {
-            if !self.follow_at(rows, flow, change.arc) {
-                self.noted.note(change.arc);
-            }
-        }
+        self.follow(rows, flow, changes);
         self.load_between();
     }
 
@@ -343,18 +350,6 @@ impl Proposals {
         let entries = self.entries();
         self.between.load(entries);
         self.proposal.ends.put_in_order();
-    }
-
-    /// Brings an arc in step, and says whether it is: not where another arc has its number now.
-    fn follow_at(&mut self, rows: &[ArcRow], flow: &[i64], arc: u32) -> bool
-        requires { length flow.now ≡ length rows.now }
-        ensures { self.new ≡ self.old }
-    {
-        let k = arc as usize;
-        if k >= rows.len() || flow_of(&self.proposal, k, &rows[k], flow[k]) == flow[k] {
-            return true;
-        }
-        self.proposal.ends.renew(k, &arc_of(&rows[k], flow[k]))
     }
 
     /// Notes that a node may have got another potential.
@@ -382,10 +377,22 @@ impl Proposals {
     /// looked at, since all were at most 0 before.
     pub fn greatest(&self) -> i64 {
         let potentials = self.proposal.potentials();
+        let mut greatest = 0;
         match self.proposal.moved() {
-            Some(moved) if self.keeps_nodes => greatest_at(potentials, moved),
-            _ => greatest_of(potentials),
+            Some(moved) if self.keeps_nodes => {
+                for v in moved {
+                    if let Some(potential) = potentials.get(*v as usize) {
+                        greatest = greatest.max(*potential);
+                    }
+                }
+            }
+            _ => {
+                for potential in potentials {
+                    greatest = greatest.max(*potential);
+                }
+            }
         }
+        greatest
     }
 
     /// Takes over a flow, what it leaves at each node and potentials, as a proposal near an edit begins: of the arcs and the
@@ -414,7 +421,8 @@ impl Proposals {
         requires { length flow.now ≡ length rows.now }
         ensures { self.new ≡ self.old }
     {
-        let is_renewed = self.keeps_step(rows)
+        let is_renewed = self.standing == Standing::InStep
+            && self.noted.listed().len() <= rows.len() / FEWER
             && renew_all(&mut self.proposal.ends, &self.noted, rows, flow);
         if !is_renewed {
             self.returned = None;
@@ -451,14 +459,6 @@ impl Proposals {
         self.between.list_roots_among(&self.proposal, unbalanced);
     }
 
-    /// Whether the proposal keeps step but for arcs that were noted, or that are more or fewer now, and these are few, and what
-    /// searches from both sides know is of the same nodes.
-    fn keeps_step(&self, rows: &[ArcRow]) -> bool {
-        self.standing == Standing::InStep
-            && self.between.entries() == self.proposal.entries()
-            && self.noted.listed().len() <= rows.len() / FEWER
-    }
-
     /// Whether arcs were noted, or there are more or fewer than the proposal has.
     pub fn lacks_arcs(&self, rows: &[ArcRow]) -> bool {
         !self.noted.listed().is_empty() || self.proposal.ends().entered() != rows.len()
@@ -467,21 +467,27 @@ impl Proposals {
     /// Writes down which arcs are to have another flow, less than all where there is no room for them.
     pub fn write(&self, rows: &[ArcRow], flow: &[i64], wanted: &mut Wanted) {
         wanted.changes.clear();
+        let arcs = rows.len().min(flow.len());
+        // In step, the proposal has another flow at noted arcs alone.
+        if self.standing == Standing::InStep && self.proposal.ends().entered() == rows.len() {
+            for k in self.noted.listed() {
+                let k = *k as usize;
+                if k < arcs {
+                    wanted.list(k, flow[k], flow_of(&self.proposal, k, &rows[k], flow[k]));
+                }
+            }
+            return;
+        }
         let mut first = 0;
         if let Some(returned) = self.returned {
-            if !rows.is_empty() && !flow.is_empty() {
-                let goal = returned.max(rows[0].low).min(rows[0].cap);
-                let _listed = wanted.list(0, flow[0], goal);
+            if arcs > 0 {
+                wanted.list(0, flow[0], returned.max(rows[0].low).min(rows[0].cap));
             }
             first = 1;
         }
-        let is_in_step = self.standing == Standing::InStep
-            && self.proposal.ends().entered() == rows.len();
-        let _whole = if is_in_step {
-            write_noted(wanted, &self.proposal, rows, flow, &self.noted)
-        } else {
-            write_flow(wanted, &self.proposal, rows, flow, first)
-        };
+        for k in first..arcs {
+            wanted.list(k, flow[k], flow_of(&self.proposal, k, &rows[k], flow[k]));
+        }
     }
 }
 
@@ -495,13 +501,6 @@ fn arc_of(row: &ArcRow, flow: i64) -> Arc {
         cap: row.cap,
         cost: row.cost,
         flow,
-    }
-}
-
-/// Notes each of these arcs.
-fn note_each(noted: &mut Noted, places: &[u32]) {
-    for k in places {
-        noted.note(*k);
     }
 }
 
@@ -558,58 +557,6 @@ fn renew_all(ends: &mut ResidualEnds, noted: &Noted, rows: &[ArcRow], flow: &[i6
         }
     }
     true
-}
-
-/// The greatest of these potentials, or 0 if that is greater.
-fn greatest_of(potentials: &[i64]) -> i64 {
-    let mut greatest = 0;
-    for p in potentials {
-        greatest = greatest.max(*p);
-    }
-    greatest
-}
-
-/// The same of the potentials of these nodes.
-fn greatest_at(potentials: &[i64], nodes: &[u32]) -> i64 {
-    let mut greatest = 0;
-    for v in nodes {
-        let v = *v as usize;
-        if v < potentials.len() {
-            greatest = greatest.max(potentials[v]);
-        }
-    }
-    greatest
-}
-
-/// Writes down the flow of each noted arc, where it is to change.
-fn write_noted(
-    wanted: &mut Wanted,
-    proposal: &Proposal,
-    rows: &[ArcRow],
-    flow: &[i64],
-    noted: &Noted,
-) -> Option<()> {
-    for k in noted.listed() {
-        let k = *k as usize;
-        if k < rows.len() && k < flow.len() {
-            wanted.list(k, flow[k], flow_of(proposal, k, &rows[k], flow[k]))?;
-        }
-    }
-    Some(())
-}
-
-/// Writes down the flow of each arc from one on, where it is to change.
-fn write_flow(
-    wanted: &mut Wanted,
-    proposal: &Proposal,
-    rows: &[ArcRow],
-    flow: &[i64],
-    first: usize,
-) -> Option<()> {
-    for k in first..rows.len().min(flow.len()) {
-        wanted.list(k, flow[k], flow_of(proposal, k, &rows[k], flow[k]))?;
-    }
-    Some(())
 }
 
 /// The flow that is wanted of an arc that has this flow.

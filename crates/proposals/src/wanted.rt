@@ -30,17 +30,16 @@ impl Wanted {
     }
 
     /// Lists the arc in this row where it is to have another flow than it has, as far as there is room.
-    pub(crate) fn list(&mut self, k: usize, flow: i64, goal: i64) -> Option<()> {
-        if flow == goal {
-            return Some(());
+    pub(crate) fn list(&mut self, k: usize, flow: i64, goal: i64) {
+        if flow == goal || self.changes.len() >= self.changes.capacity() {
+            return;
         }
-        let arc = u32::try_from(k).ok()?;
-        self.changes
-            .push(FlowChange {
+        if let Ok(arc) = u32::try_from(k) {
+            self.changes.push_reserved(FlowChange {
                 arc,
                 next: 0,
                 flow: goal,
-            })
-            .ok()
+            });
+        }
     }
 }

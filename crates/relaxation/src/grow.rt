@@ -3,7 +3,7 @@
 ghost use Rattle.std.specs.Prelude.{◌≡◌, ◌<◌, ◌^◌, IfSome};
 ghost use Rattle.relaxation.specs.Grow.{MetIn};
 
-use crate::candidates::{Candidate, Candidates};
+use crate::candidates::Candidates;
 use crate::proposal::Proposal;
 use crate::reach::Reach;
 use crate::ring::Ring;
@@ -62,7 +62,7 @@ fn spread<const AHEAD: bool>(proposal: &Proposal, sets: &mut Sets, s: usize, mos
     let mut held = proposal.excess::<AHEAD>(s);
     begin::<AHEAD>(proposal, &sets.tight, &mut sets.reach, s);
     for _ in 1..most {
-        if held > sets.reach.room() {
+        if held > sets.reach.room {
             return Growth::Short;
         }
         let Some(u) = sets.reach.take_in() else {
@@ -237,7 +237,7 @@ fn survey_out<const AHEAD: bool>(
         let reduced_cost = open_cost::<AHEAD>(proposal, potential, link);
         if candidates.may_need(reduced_cost) && !reach.is_inside(link.other as usize) {
             let place = ends.first + k as u32;
-            candidates.add(Candidate::new(reduced_cost, place, link.room::<AHEAD>()));
+            candidates.add(reduced_cost, place, link.room::<AHEAD>());
         }
     }
 }

@@ -3,7 +3,7 @@
 ghost use Rattle.std.specs.Prelude.{◌≡◌, ◌<◌, ◌^◌};
 ghost use Rattle.relaxation.specs.Limits.{IsWithin, potential_limit};
 
-use crate::candidates::{CLOSED, Candidate, Candidates};
+use crate::candidates::{CLOSED, Candidates};
 use crate::grow::grow;
 use crate::proposal::Proposal;
 use crate::ring::Ring;
@@ -62,7 +62,7 @@ fn survey<const AHEAD: bool>(proposal: &Proposal, sets: &mut Sets, s: usize)
             sets.tight.add(place);
         } else {
             sets.candidates
-                .add(Candidate::new(reduced_cost, place, link.room::<AHEAD>()));
+                .add(reduced_cost, place, link.room::<AHEAD>());
         }
     }
 }
