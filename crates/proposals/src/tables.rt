@@ -446,17 +446,16 @@ impl Proposals {
         let is_loaded = self.between.entries() == self.proposal.entries();
         if !is_loaded || !self.keeps_nodes || self.proposal.moved().is_none() {
             self.proposal.load_nodes(excess, potentials);
-            if is_loaded {
-                self.between.list_roots(&self.proposal);
-            }
-            return;
+        } else {
+            let (sources, sinks) = self.between.listed_roots();
+            self.proposal.load_rests(excess, sources);
+            self.proposal.load_rests(excess, sinks);
+            self.proposal.load_rests(excess, unbalanced);
+            self.proposal.load_moved(potentials);
         }
-        let (sources, sinks) = self.between.listed_roots();
-        self.proposal.load_rests(excess, sources);
-        self.proposal.load_rests(excess, sinks);
-        self.proposal.load_rests(excess, unbalanced);
-        self.proposal.load_moved(potentials);
-        self.between.list_roots_among(&self.proposal, unbalanced);
+        if is_loaded {
+            self.between.list_roots(&self.proposal, unbalanced);
+        }
     }
 
     /// Whether arcs were noted, or there are more or fewer than the proposal has.

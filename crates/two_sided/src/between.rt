@@ -1,9 +1,9 @@
 //! Pushes along shortest paths that a search from both sides at once finds, for few nodes out of balance.
 
-ghost use Rattle.std.specs.Prelude.{◌≡◌, ◌<◌, ◌^◌, IfSome, IsTrue, length};
+ghost use Rattle.std.specs.Prelude.{◌≡◌, ◌<◌, ◌^◌, IfSome, length};
 
 use crate::front::{Front, Meeting};
-use containers::{FAR, Nodes, Noted, Places, both};
+use containers::{FAR, NO_PLACE, Nodes, Noted, Places, both};
 use relaxation::Proposal;
 use std::alloc::{AllocError, Global};
 use std::marker::Model;
@@ -95,26 +95,16 @@ impl Between {
     pub fn load(&mut self, entries: usize)
         requires { entries < 2 ^ 31 }
     {
-        if self.entries() != entries {
-            let _opened = self.open(entries);
+        if self.entries() == entries {
+            return;
         }
-    }
-
-    /// Makes tables of so many entries of nodes in the room that there is, and says whether it is enough.
-    fn open(&mut self, entries: usize) -> bool
-        requires { entries < 2 ^ 31 }
-        ensures { IsTrue result → self.new ≡ entries }
-    {
-        if self.ahead.open(entries) && self.behind.open(entries) {
-            self.sources.begin(entries);
-            self.sinks.begin(entries);
-            return true;
+        if !self.ahead.open(entries) || !self.behind.open(entries) {
+            self.ahead.close();
+            self.behind.close();
         }
-        self.ahead.close();
-        self.behind.close();
-        self.sources.begin(0);
-        self.sinks.begin(0);
-        false
+        let opened = self.ahead.entries();
+        self.sources.begin(opened);
+        self.sinks.begin(opened);
     }
 
     /// Pushes along shortest paths until one side is empty or the sides do not meet, or else until too much was read; says
@@ -135,10 +125,10 @@ impl Between {
         let ends = proposal.ends().count() as u64;
         let mut reads: u64 = 0;
         for _ in 0..u64::MAX {
-            if !self.begin(proposal) {
+            let Some(begun) = self.begin(proposal) else {
                 return true;
-            }
-            let most = if self.begun() > MANY {
+            };
+            let most = if begun > MANY {
                 1
             } else {
                 settled.max(LEAST_OF_FEW).min(MOST_OF_FEW)
@@ -200,8 +190,8 @@ impl Between {
     {
         self.ahead.forget();
         self.behind.forget();
-        self.ahead.begin_at(s);
-        self.behind.begin_at(t);
+        self.ahead.settle_at(s, NO_PLACE);
+        self.behind.settle_at(t, NO_PLACE);
         let Some(meeting) = self.search(proposal) else {
             return false;
         };
@@ -215,12 +205,6 @@ impl Between {
         sources.saturating_add(self.sinks.listed().len())
     }
 
-    /// At how many nodes the searches began.
-    fn begun(&self) -> usize {
-        let ahead = self.ahead.settled().listed().len();
-        ahead.saturating_add(self.behind.settled().listed().len())
-    }
-
     /// How many ends the last search read, with as many for the path as these would take.
     fn reads(&self) -> u64 {
         let ahead = self.path_ahead.listed().len() as u64;
@@ -230,20 +214,8 @@ impl Between {
         read.saturating_add(walked)
     }
 
-    /// Lists the nodes out of balance.
-    pub fn list_roots(&mut self, proposal: &Proposal)
-        requires { proposal.now ≡ self.old }
-        ensures { self.new ≡ self.old }
-    {
-        self.sources.clear();
-        self.sinks.clear();
-        for v in 0..proposal.entries() {
-            self.list_root(v, proposal.rest(v));
-        }
-    }
-
     /// Lists those of these nodes that are out of balance.
-    pub fn list_roots_among(&mut self, proposal: &Proposal, nodes: &[u32])
+    pub fn list_roots(&mut self, proposal: &Proposal, nodes: &[u32])
         requires { proposal.now ≡ self.old }
         ensures { self.new ≡ self.old }
     {
@@ -274,8 +246,8 @@ impl Between {
         }
     }
 
-    /// Begins at all nodes in excess and at all in deficit, and says whether there are both.
-    fn begin(&mut self, proposal: &Proposal) -> bool
+    /// Begins at all nodes in excess and at all in deficit, and says how many these are, if there are both.
+    fn begin(&mut self, proposal: &Proposal) -> Option<usize>
         requires { proposal.now ≡ self.old }
         ensures { self.new ≡ self.old }
     {
@@ -283,7 +255,11 @@ impl Between {
         self.behind.forget();
         begin_all::<true>(&mut self.ahead, &self.sources, proposal);
         begin_all::<false>(&mut self.behind, &self.sinks, proposal);
-        self.ahead.has_waiting() && self.behind.has_waiting()
+        let (ahead, behind) = (self.ahead.unread(), self.behind.unread());
+        if ahead == 0 || behind == 0 {
+            return None;
+        }
+        Some(ahead.saturating_add(behind))
     }
 
     /// Searches from both sides, and gives a shortest path across.
@@ -350,7 +326,7 @@ fn begin_all<const AHEAD: bool>(front: &mut Front, roots: &Nodes, proposal: &Pro
     for v in roots.listed() {
         let v = *v as usize;
         if proposal.excess::<AHEAD>(v) > 0 {
-            front.begin_at(v);
+            front.settle_at(v, NO_PLACE);
         }
     }
 }

@@ -222,14 +222,6 @@ impl Front {
         self.reads = 0;
     }
 
-    /// Begins at a node.
-    pub fn begin_at(&mut self, v: usize)
-        requires { v < self.old }
-        ensures { self.new ≡ self.old }
-    {
-        self.settle_at(v, NO_PLACE);
-    }
-
     /// How far the search has come, if it is not at its end: no node that is not settled is nearer.
     #[inline(always)]
     pub fn reach(&self) -> Option<i64>
@@ -408,9 +400,10 @@ impl Front {
         meeting.or_over(v, self.last, other.key(v))
     }
 
-    /// Settles a node as far off as the search has come, where no path to it was as short.
+    /// Settles a node as far off as the search has come, where no path to it was as short; a search begins at one without an
+    /// arc before it.
     #[inline(always)]
-    fn settle_at(&mut self, v: usize, parent: u32)
+    pub fn settle_at(&mut self, v: usize, parent: u32)
         requires { v < self.old }
         ensures { self.new ≡ self.old }
     {
@@ -502,7 +495,7 @@ impl Front {
         path.clear();
         let mut u = v;
         for _ in 0..self.labels.len() {
-            self.mark(u);
+            self.frontier.set_state(u, State::Walked);
             let place = self.labels[u].parent;
             let Some(link) = proposal.ends().link(place) else {
                 break;
@@ -511,14 +504,6 @@ impl Front {
             u = link.other as usize;
         }
         u
-    }
-
-    /// Marks a node as on the path that is traced.
-    fn mark(&mut self, v: usize)
-        requires { v < self.old }
-        ensures { self.new ≡ self.old }
-    {
-        self.frontier.set_state(v, State::Walked);
     }
 
     /// Lists the places of the arcs of the path to a node, from the last of its nodes on, seen from its end, that the marked path
