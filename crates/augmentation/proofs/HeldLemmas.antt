@@ -13,7 +13,7 @@ use Rattle.residual_graph.specs.Residual.{IsPseudoflow, end_at, end_of, number_a
 use Rattle.residual_graph.proofs.RowLemmas.{start_of-in}
 use Rattle.residual_graph.specs.Walk.{end_way}
 use Rattle.shortest_paths.specs.declared.predecessor.Predecessor.{Predecessor}
-use Rattle.shortest_paths.specs.Tree.{AreArcsNoted, HeldView, IsArcNoted}
+use Rattle.shortest_paths.specs.Tree.{AreArcsNoted, IsArcNoted, TreeView}
 use Rattle.tracked.specs.Touched.{NameChanges}
 use Rattle.shortest_paths.specs.Predecessor.{ComesAlong, IsTracedAt, arc_to, predecessor_at, rank_at, row_along, way_to}
 use Rattle.augmentation.specs.Certificate.{AreInRange, KeepsRow}
@@ -70,24 +70,21 @@ comes_still a x y p q s t v flow same label start before comes =
 
 -- ---- what changed, and what is tested
 
-module _ (nodes : ℕ) (rows : List ArcRow) (w x p q : List ℤ) (s t : List Predecessor) (noted beside written relabelled rehung : List Bool)
+module _ (nodes : ℕ) (rows : List ArcRow) (w x p q : List ℤ) (s t : List Predecessor) (noted beside written touched : List Bool)
     (is_flow : IsPseudoflow nodes rows x) (sized : length q ≡ nodes)
-    (held : AreHeld rows w p s noted beside) (moved : AreMarkedChanges rows w x p q s t written relabelled rehung) (in_range : AreInRange q) (tested : AreTestedThere rows x q t noted beside written rehung) where
+    (held : AreHeld rows w p s noted beside) (moved : AreMarkedChanges rows w x p q s t written touched) (in_range : AreInRange q) (tested : AreTestedThere rows x q t noted beside written touched) where
   start_in : (k : ℕ) (way : Way) → k < length rows → start_at rows k way < length q
   start_in k way lt = (let r = start_of-in nodes (row_at rows k) way (is_flow.rows k lt) in omega (arith, r, sized))
-
-  relabelled_hold : (v : ℕ) → v < length q → in_set relabelled v ≡ true → HoldsAt rows x q t v
-  relabelled_hold v lt is = tested.rehung_hold v lt (moved.among v is)
 
   keeps : (k : ℕ) → k < length rows → KeepsRow (row_at rows k) (number_at x k) q
   keeps k lt = elim (noted_or_not noted k) [
     | inl is ↦ (tested.noted_hold k lt is).keeps
     | inr out ↦ elim (noted_or_not written k) [
       | inl is ↦ (tested.written_hold k lt is).keeps
-      | inr still ↦ elim (noted_or_not relabelled (row_at rows k).tail) [
-        | inl is ↦ ((relabelled_hold (row_at rows k).tail (start_in k Forward lt) is).along k Forward lt refl).keeps
-        | inr tail ↦ elim (noted_or_not relabelled (row_at rows k).head) [
-          | inl is ↦ ((relabelled_hold (row_at rows k).head (start_in k Backward lt) is).along k Backward lt refl).keeps
+      | inr still ↦ elim (noted_or_not touched (row_at rows k).tail) [
+        | inl is ↦ ((tested.touched_hold (row_at rows k).tail (start_in k Forward lt) is).along k Forward lt refl).keeps
+        | inr tail ↦ elim (noted_or_not touched (row_at rows k).head) [
+          | inl is ↦ ((tested.touched_hold (row_at rows k).head (start_in k Backward lt) is).along k Backward lt refl).keeps
           | inr head ↦ subst (λ (z : ℤ). KeepsRow (row_at rows k) z q) (sym (moved.flow k still)) (same_labels (row_at rows k) (number_at w k) p q (moved.labels (row_at rows k).tail tail) (moved.labels (row_at rows k).head head) (held.arcs k lt out))
         ]
       ]
@@ -109,13 +106,10 @@ module _ (nodes : ℕ) (rows : List ArcRow) (w x p q : List ℤ) (s t : List Pre
         let by_start : HoldsAt rows x q t u → IsTracedAt rows x q t v = λ hold. by_arc v same along.1.ends (hold.along k way along.0 refl) in
         elim (noted_or_not written k) [
           | inl is ↦ by_arc v same along.1.ends (tested.written_hold k along.0 is)
-          | inr still ↦ elim (noted_or_not relabelled u) [
-            | inl is ↦ by_start (relabelled_hold u (start_in k way along.0) is)
-            | inr start ↦ elim (noted_or_not rehung u) [
-              | inl is ↦ by_start (tested.rehung_hold u (start_in k way along.0) is)
-              | inr before_it ↦ inr (subst (λ (j : ℕ). (j < length rows) × ComesAlong (row_at rows j) (number_at x j) q t v) (sym (ap (λ (r : Predecessor). r.end / 2) same))
-                  (along.0, comes_still (row_at rows k) (number_at w k) (number_at x k) p q s t v (moved.flow k still) same label (moved.labels u start) (moved.predecessors u before_it) along.1))
-            ]
+          | inr still ↦ elim (noted_or_not touched u) [
+            | inl is ↦ by_start (tested.touched_hold u (start_in k way along.0) is)
+            | inr out ↦ inr (subst (λ (j : ℕ). (j < length rows) × ComesAlong (row_at rows j) (number_at x j) q t v) (sym (ap (λ (r : Predecessor). r.end / 2) same))
+                (along.0, comes_still (row_at rows k) (number_at w k) (number_at x k) p q s t v (moved.flow k still) same label (moved.labels u out) (moved.predecessors u out) along.1))
           ]
         ])
   ]
@@ -123,12 +117,9 @@ module _ (nodes : ℕ) (rows : List ArcRow) (w x p q : List ℤ) (s t : List Pre
   traced : (v : ℕ) → v < length q → IsTracedAt rows x q t v
   traced v lt = elim (noted_or_not beside v) [
     | inl is ↦ tested.beside_traced v lt is
-    | inr out ↦ elim (noted_or_not relabelled v) [
-      | inl is ↦ (relabelled_hold v lt is).traced
-      | inr label ↦ elim (noted_or_not rehung v) [
-        | inl is ↦ (tested.rehung_hold v lt is).traced
-        | inr same ↦ traced_still v (moved.labels v label) (moved.predecessors v same) (held.nodes v (omega (arith, lt, moved.sized)) out)
-      ]
+    | inr out ↦ elim (noted_or_not touched v) [
+      | inl is ↦ (tested.touched_hold v lt is).traced
+      | inr same ↦ traced_still v (moved.labels v same) (moved.predecessors v same) (held.nodes v (omega (arith, lt, moved.sized)) out)
     ]
   ]
 
@@ -137,8 +128,8 @@ module _ (nodes : ℕ) (rows : List ArcRow) (w x p q : List ℤ) (s t : List Pre
   tested_whole = record { certifying = (in_range, none_of rows x q keeps); traced = traced }
 
 -- labels that were in range are so, where those are that changed
-pub in_range_still : (p q : List ℤ) (relabelled : List Bool) → AreInRange p → ((v : ℕ) → in_set relabelled v ≡ false → number_at q v ≡ number_at p v) → ((v : ℕ) → v < length q → in_set relabelled v ≡ true → IsInLabelRange (number_at q v)) → AreInRange q
-in_range_still p q relabelled before same inside = record {
+pub in_range_still : (p q : List ℤ) (touched : List Bool) → AreInRange p → ((v : ℕ) → in_set touched v ≡ false → number_at q v ≡ number_at p v) → ((v : ℕ) → v < length q → in_set touched v ≡ true → IsInLabelRange (number_at q v)) → AreInRange q
+in_range_still p q touched before same inside = record {
   sized = refl;
   at_most_0 = λ v. (each v).1;
   at_least = λ v. (each v).0;
@@ -147,7 +138,7 @@ in_range_still p q relabelled before same inside = record {
     each : (v : ℕ) → IsInLabelRange (number_at q v)
     each v = elim (cases_lt v (length q)) [
       | inr past ↦ (let none = get_or_past q v (pos 0) past in (omega (arith, ints, none), omega (arith, ints, none)))
-      | inl lt ↦ elim (noted_or_not relabelled v) [
+      | inl lt ↦ elim (noted_or_not touched v) [
         | inl is ↦ inside v lt is
         | inr out ↦ (let label = same v out in (omega (arith, ints, label, before.at_least v), omega (arith, ints, label, before.at_most_0 v)))
       ]
@@ -214,7 +205,7 @@ held_after rows w rows' w' q t noted beside noted' beside' held change = record 
 }
 
 -- an arc that a tree notes
-pub noted_arc : (rows : List ArcRow) (h : HeldView) (k : ℕ) → IsArcNoted rows h k → IsNoted rows h.noted h.beside k
+pub noted_arc : (rows : List ArcRow) (h : TreeView) (k : ℕ) → IsArcNoted rows h k → IsNoted rows h.noted h.beside k
 noted_arc rows h k is = (is.arc, ends)
   where
     ends : (way : Way) → in_set h.beside (end_at rows k way) ≡ true
@@ -222,7 +213,7 @@ noted_arc rows h k is = (is.arc, ends)
     ends Backward = is.tail
 
 -- what was tested and accepted is held, under the flow from which this one differs at named arcs
-pub held_by : (rows : List ArcRow) (w x q : List ℤ) (t : List Predecessor) (places : List ℕ) (h : HeldView) → length rows ≤ length w → h.labels ≡ q → h.predecessors ≡ t → NameChanges 0 places w x → AreArcsNoted rows places h → AreTested rows x q t → IsHeldIn rows w h
+pub held_by : (rows : List ArcRow) (w x q : List ℤ) (t : List Predecessor) (places : List ℕ) (h : TreeView) → length rows ≤ length w → h.labels ≡ q → h.predecessors ≡ t → NameChanges 0 places w x → AreArcsNoted rows places h → AreTested rows x q t → IsHeldIn rows w h
 held_by rows w x q t places h fits labels predecessors named noted tested = λ found.
     subst (λ (p : List ℤ). AreHeld rows w p h.predecessors h.noted h.beside) (sym labels)
     (subst (λ (s : List Predecessor). AreHeld rows w q s h.noted h.beside) (sym predecessors)

@@ -219,7 +219,7 @@ pub HavePushed-none : {g : GraphView} {x : TrackedView ℤ} {e : List ℤ} {s : 
 HavePushed-none {g} {x} {e} {s} state = record { written = IsWritten-same x; state = state; held = refl; pushes = ArePushes-none g.rows x.entries e }
 
 -- between the two only the scratch may change, and keeps the labels that are held
-pub HavePushed-more : {g : GraphView} {m n : ℕ} {x y z : TrackedView ℤ} {e f h : List ℤ} {s t u v : ScratchView} → HavePushed g m x y e f s t → HavePushed g n y z f h u v → u.held ≡ t.held → HavePushed g (m + n) x z e h s v
+pub HavePushed-more : {g : GraphView} {m n : ℕ} {x y z : TrackedView ℤ} {e f h : List ℤ} {s t u v : ScratchView} → HavePushed g m x y e f s t → HavePushed g n y z f h u v → u.tree ≡ t.tree → HavePushed g (m + n) x z e h s v
 HavePushed-more {g} {m} {n} {x} {y} {z} {e} {f} {h} {s} {t} {u} {v} first rest kept = record {
   written = IsWritten-trans x y z first.written rest.written;
   state = rest.state;

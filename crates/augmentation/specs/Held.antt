@@ -6,7 +6,7 @@ use Rattle.residual_graph.specs.Residual.{IsPseudoflow, end_at, number_at, row_a
 use Rattle.shortest_paths.specs.declared.predecessor.Predecessor.{Predecessor}
 use Rattle.shortest_paths.specs.Limits.{label_floor}
 use Rattle.shortest_paths.specs.Predecessor.{IsTracedAt, arc_to, predecessor_at}
-use Rattle.shortest_paths.specs.Tree.{HeldView, TreeView}
+use Rattle.shortest_paths.specs.Tree.{IsRelabelled, TreeView}
 use Rattle.augmentation.specs.declared.held.Labelled.{Labelled}
 use Rattle.augmentation.specs.Certificate.{AreCertifying, AreInRange, KeepsRow}
 use Rattle.tracked.specs.Marks.{in_set}
@@ -34,8 +34,15 @@ abbrev pub IsInRangeAt : List ℤ → ℕ → Type 0
 IsInRangeAt q v = IsInLabelRange (number_at q v)
 
 -- labels are held under a flow, unless they are lost
-abbrev pub IsHeldIn : List ArcRow → List ℤ → HeldView → Type 0
-IsHeldIn rows x h = h.is_lost ≡ false → AreHeld rows x h.labels h.predecessors h.noted h.beside
+abbrev pub IsHeldIn : List ArcRow → List ℤ → TreeView → Type 0
+IsHeldIn rows x t = t.is_lost ≡ false → AreHeld rows x t.labels t.predecessors t.noted t.beside
+
+-- they were, before labels of the tree were written
+pub record IsHeldSince (rows : List ArcRow) (x : List ℤ) (t : TreeView) : Type 0 where
+  pub before : TreeView
+  pub held : IsHeldIn rows x before
+  pub moved : IsRelabelled before t
+  pub sized : length t.labels ≡ length before.labels
 
 -- arc k is certified, and a node that hangs on it is traced
 pub record HoldsAlong (rows : List ArcRow) (x q : List ℤ) (t : List Predecessor) (k : ℕ) : Type 0 where
@@ -81,23 +88,22 @@ HoldAtAllOn on nodes = AllMarked nodes (length on.labels.now) (HoldsAtOn on)
 abbrev pub AreTracedAllOn : Labelled → List Bool → Type 0
 AreTracedAllOn on nodes = AllMarked nodes (length on.labels.now) (IsTracedOn on)
 
--- the flow w became x, the labels p became q and the predecessors s became t, all at marked places alone; where a label changed, so did the predecessor
-pub record AreMarkedChanges (rows : List ArcRow) (w x p q : List ℤ) (s t : List Predecessor) (written relabelled rehung : List Bool) : Type 0 where
+-- the flow w became x, the labels p became q and the predecessors s became t, all at marked places alone
+pub record AreMarkedChanges (rows : List ArcRow) (w x p q : List ℤ) (s t : List Predecessor) (written touched : List Bool) : Type 0 where
   pub sized : length q ≡ length p
   pub flow : (k : ℕ) → in_set written k ≡ false → number_at x k ≡ number_at w k
-  pub labels : (v : ℕ) → in_set relabelled v ≡ false → number_at q v ≡ number_at p v
-  pub predecessors : (v : ℕ) → in_set rehung v ≡ false → predecessor_at t v ≡ predecessor_at s v
-  pub among : (v : ℕ) → in_set relabelled v ≡ true → in_set rehung v ≡ true
+  pub labels : (v : ℕ) → in_set touched v ≡ false → number_at q v ≡ number_at p v
+  pub predecessors : (v : ℕ) → in_set touched v ≡ false → predecessor_at t v ≡ predecessor_at s v
 
--- all was tested along noted and written arcs, at nodes beside the noted ones, and where nodes got another predecessor
-pub record AreTestedThere (rows : List ArcRow) (x q : List ℤ) (t : List Predecessor) (noted beside written rehung : List Bool) : Type 0 where
+-- all was tested along noted and written arcs, at nodes beside the noted ones, and at touched ones
+pub record AreTestedThere (rows : List ArcRow) (x q : List ℤ) (t : List Predecessor) (noted beside written touched : List Bool) : Type 0 where
   pub noted_hold : (k : ℕ) → k < length rows → in_set noted k ≡ true → HoldsAlong rows x q t k
   pub beside_traced : (v : ℕ) → v < length q → in_set beside v ≡ true → IsTracedAt rows x q t v
   pub written_hold : (k : ℕ) → k < length rows → in_set written k ≡ true → HoldsAlong rows x q t k
-  pub rehung_hold : (v : ℕ) → v < length q → in_set rehung v ≡ true → HoldsAt rows x q t v
+  pub touched_hold : (v : ℕ) → v < length q → in_set touched v ≡ true → HoldsAt rows x q t v
 
 abbrev pub AreTestedOn : Labelled → List Bool → List Bool → List Bool → List Bool → Type 0
-AreTestedOn on noted beside written rehung = AreTestedThere on.graph.now.rows on.flow.now on.labels.now on.predecessors.now noted beside written rehung
+AreTestedOn on noted beside written touched = AreTestedThere on.graph.now.rows on.flow.now on.labels.now on.predecessors.now noted beside written touched
 
 -- an arc has the same row and the same flow
 pub record IsSameArc (rows : List ArcRow) (w : List ℤ) (rows' : List ArcRow) (w' : List ℤ) (k : ℕ) : Type 0 where

@@ -16,6 +16,5 @@ pub mod Changes
 pub mod Exchange
 pub mod Certificate
 pub mod Held
-pub mod Near
 pub mod Attempt
 pub mod Adoption

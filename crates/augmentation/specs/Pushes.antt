@@ -10,5 +10,5 @@ use Rattle.augmentation.specs.ScratchView.{ScratchView}
 pub record HavePushed (g : GraphView) (n : ℕ) (x y : TrackedView ℤ) (e f : List ℤ) (s t : ScratchView) : Type 0 where
   pub written : IsWritten x y
   pub state : IsCertifiedIn g y f t
-  pub held : t.held ≡ s.held
+  pub held : t.tree ≡ s.tree
   pub pushes : ArePushesOf g n x e y f

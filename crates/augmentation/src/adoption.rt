@@ -2,6 +2,7 @@
 
 ghost use Rattle.std.specs.Prelude.{◌≡◌, ℤ, List, length, IfNone, IfSome};
 ghost use Rattle.residual_graph.specs.Residual.{IsPseudoflow};
+ghost use Rattle.shortest_paths.specs.Tree.{AreInStep};
 ghost use Rattle.tracked.specs.Journal.{IsSince};
 ghost use Rattle.tracked.specs.Tracked.{IsWritten};
 ghost use Rattle.augmentation.specs.Adoption.{IsCertifiedBy, IsRaisedBy, IsRaisedOrAsBefore};
@@ -9,14 +10,13 @@ ghost use Rattle.augmentation.specs.Attempt.{IsAttemptFor};
 ghost use Rattle.augmentation.specs.Cut.{IsParted};
 ghost use Rattle.augmentation.specs.Exchange.{AreLed, IsBefore, IsJournalFor, flow_before};
 ghost use Rattle.augmentation.specs.Held.{IsHeldIn};
-ghost use Rattle.augmentation.specs.Near.{AreInStep};
 ghost use Rattle.augmentation.specs.Pseudoflow.{IsReady};
 ghost use Rattle.augmentation.specs.Push.{AreSmall};
 
 use crate::attempt::Attempt;
 use crate::excess::{Excess, note_unbalanced};
 use crate::exchange::{exchange, write_back};
-use crate::near::{Apart, note_apart, raise, write_labels, write_raised};
+use crate::near::{note_apart, raise, write_labels, write_raised};
 use crate::potentials::is_renewed;
 use crate::rounds::finish;
 use crate::scratch::Scratch;
@@ -79,20 +79,19 @@ pub fn adopt(
     flow: &mut Tracked<i64>,
     excess: &mut Excess,
     potentials: &mut Tracked<i64>,
-    apart: &mut Apart,
     scratch: &mut Scratch,
 ) -> Option<u64>
     requires ready { IsReady graph.now flow.old.entries potentials.old.entries excess.old }
     requires scratch_in { length scratch.old.potentials ≡ length potentials.old.entries }
-    requires held { IsHeldIn graph.now.rows flow.old.whole scratch.old.held }
-    requires step { AreInStep apart.old scratch.old.held.labels potentials.old.entries }
+    requires held { IsHeldIn graph.now.rows flow.old.whole scratch.old.tree }
+    requires step { AreInStep scratch.old.tree potentials.old.entries }
     ensures flow_written { IsWritten flow.old flow.new }
     ensures potentials_written { IsWritten potentials.old potentials.new }
     ensures adopted { IsRaisedOrAsBefore graph.now result
         flow.old flow.new excess.old excess.new potentials.old potentials.new }
     ensures scratch_in { length scratch.new.potentials ≡ length scratch.old.potentials }
-    ensures held { IsHeldIn graph.now.rows flow.new.whole scratch.new.held }
-    ensures step { AreInStep apart.new scratch.new.held.labels potentials.new.entries }
+    ensures held { IsHeldIn graph.now.rows flow.new.whole scratch.new.tree }
+    ensures step { AreInStep scratch.new.tree potentials.new.entries }
 {
     let attempt = &mut scratch.attempt;
     let count = lead(graph, flow, excess, attempt)?;
@@ -104,7 +103,7 @@ pub fn adopt(
         return None;
     }
     attempt.proposals.adopted();
-    write_labels(potentials, apart, tree, &mut attempt.proposals);
+    write_labels(potentials, tree, &mut attempt.proposals);
     tree.accept(graph, flow.places());
     Some(count)
 }
@@ -117,27 +116,26 @@ pub fn push_proposed(
     flow: &mut Tracked<i64>,
     excess: &mut Excess,
     potentials: &mut Tracked<i64>,
-    apart: &mut Apart,
     scratch: &mut Scratch,
 ) -> Option<u64>
     requires ready { IsReady graph.now flow.old.entries potentials.old.entries excess.old }
     requires scratch_in { length scratch.old.potentials ≡ length potentials.old.entries }
-    requires held { IsHeldIn graph.now.rows flow.old.whole scratch.old.held }
-    requires step { AreInStep apart.old scratch.old.held.labels potentials.old.entries }
+    requires held { IsHeldIn graph.now.rows flow.old.whole scratch.old.tree }
+    requires step { AreInStep scratch.old.tree potentials.old.entries }
     ensures flow_written { IsWritten flow.old flow.new }
     ensures potentials_written { IsWritten potentials.old potentials.new }
     ensures pushed { IsRaisedOrAsBefore graph.now result
         flow.old flow.new excess.old excess.new potentials.old potentials.new }
     ensures scratch_in { length scratch.new.potentials ≡ length scratch.old.potentials }
-    ensures held { IsHeldIn graph.now.rows flow.new.whole scratch.new.held }
-    ensures step { AreInStep apart.new scratch.new.held.labels potentials.new.entries }
+    ensures held { IsHeldIn graph.now.rows flow.new.whole scratch.new.tree }
+    ensures step { AreInStep scratch.new.tree potentials.new.entries }
 {
     if scratch.attempt.proposals.is_fresh() || excess.has_both() {
-        note_apart(&mut scratch.attempt.proposals, apart);
+        note_apart(&mut scratch.attempt.proposals, &scratch.tree);
         scratch.propose(graph, flow.entries(), excess, potentials.entries());
-        return adopt(graph, flow, excess, potentials, apart, scratch);
+        return adopt(graph, flow, excess, potentials, scratch);
     }
-    if raise(graph, flow, potentials, apart, scratch) {
+    if raise(graph, flow, potentials, scratch) {
         Some(0)
     } else {
         None
@@ -150,24 +148,23 @@ fn push_from_afar(
     flow: &mut Tracked<i64>,
     excess: &mut Excess,
     potentials: &mut Tracked<i64>,
-    apart: &mut Apart,
     scratch: &mut Scratch,
 ) -> u64
     requires ready { IsReady graph.now flow.old.entries potentials.old.entries excess.old }
     requires scratch_in { length scratch.old.potentials ≡ length potentials.old.entries }
-    requires held { IsHeldIn graph.now.rows flow.old.whole scratch.old.held }
-    requires step { AreInStep apart.old scratch.old.held.labels potentials.old.entries }
+    requires held { IsHeldIn graph.now.rows flow.old.whole scratch.old.tree }
+    requires step { AreInStep scratch.old.tree potentials.old.entries }
     ensures flow_written { IsWritten flow.old flow.new }
     ensures potentials_written { IsWritten potentials.old potentials.new }
     ensures pushed { IsCertifiedBy graph.now result
         flow.old.entries excess.old flow.new.entries excess.new potentials.new.entries }
     ensures scratch_in { length scratch.new.potentials ≡ length scratch.old.potentials }
-    ensures held { IsHeldIn graph.now.rows flow.new.whole scratch.new.held }
-    ensures step { AreInStep apart.new scratch.new.held.labels potentials.new.entries }
+    ensures held { IsHeldIn graph.now.rows flow.new.whole scratch.new.tree }
+    ensures step { AreInStep scratch.new.tree potentials.new.entries }
 {
     let attempt = &mut scratch.attempt;
     attempt.propose_from_afar(graph, flow.entries(), excess, potentials.entries());
-    match adopt(graph, flow, excess, potentials, apart, scratch) {
+    match adopt(graph, flow, excess, potentials, scratch) {
         Some(count) => count,
         None => 0,
     }
@@ -180,28 +177,27 @@ fn push_rest(
     flow: &mut Tracked<i64>,
     excess: &mut Excess,
     potentials: &mut Tracked<i64>,
-    apart: &mut Apart,
     scratch: &mut Scratch,
 ) -> u64
     requires ready { IsReady graph.now flow.old.entries potentials.old.entries excess.old }
     requires scratch_in { length scratch.old.potentials ≡ length potentials.old.entries }
-    requires held { IsHeldIn graph.now.rows flow.old.whole scratch.old.held }
-    requires step { AreInStep apart.old scratch.old.held.labels potentials.old.entries }
+    requires held { IsHeldIn graph.now.rows flow.old.whole scratch.old.tree }
+    requires step { AreInStep scratch.old.tree potentials.old.entries }
     ensures flow_written { IsWritten flow.old flow.new }
     ensures potentials_written { IsWritten potentials.old potentials.new }
     ensures pushed { IsRaisedBy graph.now result
         flow.old.entries excess.old flow.new.entries excess.new potentials.new.entries }
     ensures parted { IsParted graph.now.rows flow.new.entries excess.new }
     ensures scratch_in { length scratch.new.potentials ≡ length scratch.old.potentials }
-    ensures held { IsHeldIn graph.now.rows flow.new.whole scratch.new.held }
-    ensures step { AreInStep apart.new scratch.new.held.labels potentials.new.entries }
+    ensures held { IsHeldIn graph.now.rows flow.new.whole scratch.new.tree }
+    ensures step { AreInStep scratch.new.tree potentials.new.entries }
 {
     scratch.take_potentials(potentials.entries());
     let count = finish(graph, flow, excess, scratch);
     if count > 0 {
         scratch.attempt.proposals.forget_arcs();
     }
-    write_raised(graph, flow, potentials, apart, scratch);
+    write_raised(graph, flow, potentials, scratch);
     count
 }
 
@@ -213,23 +209,22 @@ pub fn push_all(
     flow: &mut Tracked<i64>,
     excess: &mut Excess,
     potentials: &mut Tracked<i64>,
-    apart: &mut Apart,
     scratch: &mut Scratch,
 ) -> u64
     requires ready { IsReady graph.now flow.old.entries potentials.old.entries excess.old }
     requires scratch_in { length scratch.old.potentials ≡ length potentials.old.entries }
-    requires held { IsHeldIn graph.now.rows flow.old.whole scratch.old.held }
-    requires step { AreInStep apart.old scratch.old.held.labels potentials.old.entries }
+    requires held { IsHeldIn graph.now.rows flow.old.whole scratch.old.tree }
+    requires step { AreInStep scratch.old.tree potentials.old.entries }
     ensures flow_written { IsWritten flow.old flow.new }
     ensures potentials_written { IsWritten potentials.old potentials.new }
     ensures pushed { IsRaisedBy graph.now result
         flow.old.entries excess.old flow.new.entries excess.new potentials.new.entries }
     ensures parted { IsParted graph.now.rows flow.new.entries excess.new }
     ensures scratch_in { length scratch.new.potentials ≡ length scratch.old.potentials }
-    ensures held { IsHeldIn graph.now.rows flow.new.whole scratch.new.held }
-    ensures step { AreInStep apart.new scratch.new.held.labels potentials.new.entries }
+    ensures held { IsHeldIn graph.now.rows flow.new.whole scratch.new.tree }
+    ensures step { AreInStep scratch.new.tree potentials.new.entries }
 {
-    let count = push_from_afar(graph, flow, excess, potentials, apart, scratch);
-    let more = push_rest(graph, flow, excess, potentials, apart, scratch);
+    let count = push_from_afar(graph, flow, excess, potentials, scratch);
+    let more = push_rest(graph, flow, excess, potentials, scratch);
     count + more
 }

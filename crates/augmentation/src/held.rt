@@ -1,12 +1,11 @@
 //! Labels that were tested under an earlier flow: whether they certify the present one, and are the greatest that do. Only
 //! what changed since is looked at.
 
-ghost use Rattle.std.specs.Prelude.{◌≡◌, ◌<◌, ℕ, IsTrue, length, true};
+ghost use Rattle.std.specs.Prelude.{◌≡◌, ◌<◌, IsTrue, length};
 ghost use Rattle.residual_graph.specs.Graph.{HasEntries};
 ghost use Rattle.residual_graph.specs.Residual.{IsPseudoflow};
 ghost use Rattle.residual_graph.specs.declared.residual.Way.{Way};
-ghost use Rattle.tracked.specs.Marks.{in_set};
-ghost use Rattle.augmentation.specs.Held.{AllMarked, AreTestedIn, AreTestedOn, AreTracedAllOn, HangsWellOn, HoldAlongAllOn, HoldAtAllOn, HoldsAlongOn, HoldsAtOn, IsHeldIn, IsInRangeAt, IsLabelling};
+ghost use Rattle.augmentation.specs.Held.{AllMarked, AreTestedIn, AreTestedOn, AreTracedAllOn, HangsWellOn, HoldAlongAllOn, HoldAtAllOn, HoldsAlongOn, HoldsAtOn, IsHeldSince, IsInRangeAt, IsLabelling};
 
 use crate::certificate::{FLOOR, certifies, keeps_arc};
 use residual_ends::ResidualEnds;
@@ -147,52 +146,37 @@ fn are_traced_at(on: Labelled<'_>, nodes: &Touched) -> bool
     true
 }
 
-/// Whether each of these nodes is one of the others.
-pub(crate) fn are_among(nodes: &Touched, others: &Touched) -> bool
-    ensures { IsTrue result → (v : ℕ) → in_set nodes.now v ≡ true → in_set others.now v ≡ true }
-{
-    for node in nodes.places() {
-        let v = *node as usize;
-        if v >= others.size() || !others.is_noted(v) {
-            return false;
-        }
-    }
-    true
-}
-
-/// Whether all holds along noted and written arcs, at nodes beside the noted ones, and where nodes were hung anew.
+/// Whether all holds along noted and written arcs, at nodes beside the noted ones, and at touched ones.
 fn hold_there(
     on: Labelled<'_>,
     noted: &Touched,
     beside: &Touched,
     written: &Touched,
-    rehung: &Touched,
+    touched: &Touched,
 ) -> bool
     requires graph { HasEntries (length on.labels.now) on.graph.now }
     requires labelling { IsLabelling on }
-    ensures { IsTrue result → AreTestedOn on.entry noted.now beside.now written.now rehung.now }
+    ensures { IsTrue result → AreTestedOn on.entry noted.now beside.now written.now touched.now }
 {
     if !hold_along_all(on, noted) || !hold_along_all(on, written) || !are_traced_at(on, beside) {
         return false;
     }
-    hold_at_all(on, rehung)
+    hold_at_all(on, touched)
 }
 
 /// Whether labels that are held certify the flow, and are the greatest that do.
 pub(crate) fn holds(graph: &Graph, flow: &Tracked<i64>, ends: &ResidualEnds, tree: &Tree) -> bool
     requires graph { HasEntries (length tree.now.labels) graph.now }
     requires flow { IsPseudoflow (length tree.now.labels) graph.now.rows flow.now.entries }
-    requires held { IsHeldIn graph.now.rows flow.now.whole tree.now.held }
+    requires held { IsHeldSince graph.now.rows flow.now.whole tree.now }
     ensures { IsTrue result → AreTestedIn graph.now.rows flow.now.entries tree.now }
 {
     if tree.is_lost() {
         return false;
     }
     let labels = tree.labels();
-    let relabelled = tree.relabelled();
-    let rehung = tree.rehung();
-    // Where a label changed, so did what is known of the node's predecessor.
-    if !are_in_range_at(labels, relabelled) || !are_among(relabelled, rehung) {
+    let touched = tree.touched();
+    if !are_in_range_at(labels, touched) {
         return false;
     }
     let on = Labelled {
@@ -202,7 +186,7 @@ pub(crate) fn holds(graph: &Graph, flow: &Tracked<i64>, ends: &ResidualEnds, tre
         predecessors: tree.predecessors(),
         ends,
     };
-    hold_there(on, tree.noted(), tree.beside(), flow.written(), rehung)
+    hold_there(on, tree.noted(), tree.beside(), flow.written(), touched)
 }
 
 /// Whether labels certify the flow, and are the greatest that do: all are looked at.

@@ -29,7 +29,7 @@ pub use attempt::Attempt;
 pub use certificate::{certifies, is_within};
 pub use cut::{Cut, mark_cut};
 pub use excess::Excess;
-pub use near::{Apart, prepare};
+pub use near::prepare;
 pub use order::Order;
 pub use rounds::finish;
 pub use scratch::Scratch;

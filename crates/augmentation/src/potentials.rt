@@ -1,19 +1,21 @@
 //! The greatest potentials that certify a flow: the shortest labels.
 
-ghost use Rattle.std.specs.Prelude.{◌≡◌, length, IsTrue};
+ghost use Rattle.std.specs.Prelude.{◌≡◌, ℤ, List, length, IsTrue, true};
+ghost use Rattle.std.specs.Bool.{OnFalse};
 ghost use Rattle.residual_graph.specs.Graph.{HasEntries};
 ghost use Rattle.residual_graph.specs.Residual.{IsPseudoflow};
+ghost use Rattle.shortest_paths.specs.Tree.{AreInStep, IsRelabelled};
 ghost use Rattle.augmentation.specs.Held.{AreTestedIn, IsHeldIn};
 ghost use Rattle.tracked.specs.Tracked.{IsWritten};
 
-use crate::held::{are_among, holds, holds_whole};
+use crate::held::{holds, holds_whole};
 use residual_ends::ResidualEnds;
 use residual_graph::Graph;
 use shortest_paths::{Residual, Tree};
 use tracked::Tracked;
 
-/// Where more than one node in so many was hung anew, the labels of all nodes are tested.
-const MOST_REHUNG: usize = 16;
+/// Where more than one node in so many was touched, the labels of all nodes are tested.
+const MOST_TOUCHED: usize = 16;
 
 /// Makes a table the same as these numbers.
 pub(crate) fn write_all(table: &mut Tracked<i64>, numbers: &[i64])
@@ -40,10 +42,10 @@ fn mend(
     requires graph { HasEntries (length potentials.now) graph.now }
     requires flow { IsPseudoflow (length potentials.now) graph.now.rows flow.now.entries }
     requires sized { length tree.old.labels ≡ length potentials.now }
-    requires held { IsHeldIn graph.now.rows flow.now.whole tree.old.held }
+    requires held { IsHeldIn graph.now.rows flow.now.whole tree.old }
     ensures tested { IsTrue result → AreTestedIn graph.now.rows flow.now.entries tree.new }
     ensures sized { length tree.new.labels ≡ length tree.old.labels }
-    ensures held { tree.new.held ≡ tree.old.held }
+    ensures marked { IsRelabelled tree.old tree.new }
 {
     let residual = Residual {
         graph,
@@ -54,12 +56,8 @@ fn mend(
     if !tree.mend(residual, flow.places()) {
         return false;
     }
-    // Where many nodes were hung anew, a pass over all in turn is quicker than a walk at each. Where the whole tree was mended,
-    // labels changed at other nodes, too.
-    if tree.is_lost()
-        || tree.rehung().places().len() > tree.labels().len() / MOST_REHUNG
-        || !are_among(tree.relabelled(), tree.rehung())
-    {
+    // Where many nodes were touched, a pass over all in turn is quicker than a walk at each.
+    if tree.is_lost() || tree.touched().places().len() > tree.labels().len() / MOST_TOUCHED {
         return holds_whole(graph, flow.entries(), tree);
     }
     holds(graph, flow, ends, tree)
@@ -77,11 +75,11 @@ pub(crate) fn is_renewed(
     requires graph { HasEntries (length potentials.now) graph.now }
     requires flow { IsPseudoflow (length potentials.now) graph.now.rows flow.now.entries }
     requires sized { length tree.old.labels ≡ length potentials.now }
-    requires held { IsHeldIn graph.now.rows flow.now.whole tree.old.held }
+    requires held { IsHeldIn graph.now.rows flow.now.whole tree.old }
     ensures tested { IsTrue result → AreTestedIn graph.now.rows flow.now.entries tree.new }
+    ensures lost { OnFalse result (tree.new.is_lost ≡ true) }
     ensures sized { length tree.new.labels ≡ length tree.old.labels }
-    ensures labels { tree.new.held.labels ≡ tree.old.held.labels }
-    ensures held { IsHeldIn graph.now.rows flow.now.whole tree.new.held }
+    ensures step { (p : List ℤ) → AreInStep tree.old p → AreInStep tree.new p }
 {
     if mend(graph, flow, potentials, ends, tree) {
         return true;

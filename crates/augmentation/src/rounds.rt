@@ -56,7 +56,7 @@ fn search_on(
 ) -> Option<usize>
     requires ready { IsReadyIn graph.now flow.now excess.now scratch.old }
     ensures state { IsCertifiedIn graph.now flow.now excess.now scratch.new }
-    ensures held { scratch.new.held ≡ scratch.old.held }
+    ensures held { scratch.new.tree ≡ scratch.old.tree }
     ensures found { IsFoundOrParted graph.now flow.now excess.now scratch.new result }
 {
     if !excess.has_both() {

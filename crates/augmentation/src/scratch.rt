@@ -1,13 +1,13 @@
 //! The tables that searches write in.
 
-ghost use Rattle.std.specs.Prelude.{◌≡◌, ◌≤◌, ◌⊎◌, IfOk, IsTrue, length, true, vec_capacity};
+ghost use Rattle.std.specs.Prelude.{◌≡◌, ◌<◌, ◌≤◌, ◌⊎◌, IfOk, IsTrue, length, true, vec_capacity};
 ghost use Rattle.containers.specs.Queue.{HasRoomFor};
 ghost use Rattle.residual_graph.specs.Graph.{HasEntries};
 ghost use Rattle.residual_graph.specs.Limits.{row_limit};
 ghost use Rattle.residual_graph.specs.Residual.{IsPseudoflow, IsReducedCostOptimal};
 ghost use Rattle.residual_graph.specs.declared.side.Side.TheVariants.{Ahead};
 ghost use Rattle.shortest_paths.specs.Search.{IsForest, IsSearch};
-ghost use Rattle.shortest_paths.specs.Tree.{AreArcsNoted, StaysHeld};
+ghost use Rattle.shortest_paths.specs.Tree.{AreArcsNoted, IsMarkedToo, StaysHeld};
 ghost use Rattle.augmentation.specs.Certificate.{AreInRange};
 ghost use Rattle.augmentation.specs.Cut.{IsParted, AreOnSide};
 ghost use Rattle.augmentation.specs.Settle.{AreShortest};
@@ -56,7 +56,7 @@ impl Model for Scratch {
       potentials = s.potentials.items;
       predecessors = s.predecessors.items;
       marks = s.marked;
-      held = s.tree.held;
+      tree = s.tree;
     } };
 
     ghost invariant = { IsScratch };
@@ -87,7 +87,8 @@ impl Scratch {
     pub fn new(alloc: Global, entries: u32, arcs: usize) -> Result<Scratch, AllocError>
         requires { entries ≤ row_limit }
         ensures sized { IfOk result (λ s. length s.potentials ≡ entries) }
-        ensures lost { IfOk result (λ s. s.held.is_lost ≡ true) }
+        ensures lost { IfOk result (λ s. s.tree.is_lost ≡ true) }
+        ensures apart { IfOk result (λ s. s.tree.are_apart ≡ true) }
     {
         let predecessors = Vec::with_capacity(alloc, entries as usize);
         let queue = Queue::new(alloc, entries);
@@ -133,17 +134,35 @@ impl Scratch {
     /// Notes that the arcs in these rows may have got another row or another flow: the next proposal looks at them, and so
     /// does the next search for the greatest potentials.
     pub fn note_all(&mut self, graph: &Graph, places: &[u32])
-        ensures same { self.new ≡ record self.old { held = self.new.held } }
-        ensures held { StaysHeld self.old.held self.new.held }
-        ensures noted { AreArcsNoted graph.now.rows places.now self.new.held }
+        ensures same { self.new ≡ record self.old { tree = self.new.tree } }
+        ensures held { StaysHeld self.old.tree self.new.tree }
+        ensures noted { AreArcsNoted graph.now.rows places.now self.new.tree }
     {
         self.attempt.proposals.note_all(places);
         self.tree.note_all(graph, places);
     }
 
+    /// Notes that the potential of a node may be another than the label.
+    pub fn note_potential(&mut self, v: usize)
+        requires node { v < length self.old.potentials }
+        ensures same { self.new ≡ record self.old {
+          tree = record self.old.tree { touched = self.new.tree.touched };
+        } }
+        ensures marked { IsMarkedToo v self.old.tree.touched self.new.tree.touched }
+    {
+        self.tree.note_label(v);
+    }
+
+    /// Notes that any potential may be.
+    pub fn note_potentials(&mut self)
+        ensures { self.new ≡ record self.old { tree = record self.old.tree { are_apart = true } } }
+    {
+        self.tree.note_labels();
+    }
+
     /// Forgets the labels that are held, as is to be where pushes begin with a flow of another table.
     pub fn forget(&mut self)
-        ensures { self.new ≡ record self.old { held = record self.old.held { is_lost = true } } }
+        ensures { self.new ≡ record self.old { tree = record self.old.tree { is_lost = true; are_apart = true } } }
     {
         self.tree.forget();
     }
@@ -258,7 +277,7 @@ impl Scratch {
         requires graph { HasEntries (length self.old.potentials) graph.now }
         requires certified { IsReducedCostOptimal graph.now.rows flow.now self.old.potentials }
         ensures sized { length self.new.potentials ≡ length self.old.potentials }
-        ensures held { self.new.held ≡ self.old.held }
+        ensures held { self.new.tree ≡ self.old.tree }
         ensures shortest { AreShortest graph.now.rows flow.now self.new.potentials }
     {
         open(
@@ -280,7 +299,7 @@ impl Scratch {
         requires graph { HasEntries (length self.old.potentials) graph.now }
         requires certified { IsReducedCostOptimal graph.now.rows flow.now self.old.potentials }
         ensures sized { length self.new.potentials ≡ length self.old.potentials }
-        ensures held { self.new.held ≡ self.old.held }
+        ensures held { self.new.tree ≡ self.old.tree }
         ensures certified { IsReducedCostOptimal graph.now.rows flow.now self.new.potentials }
         ensures in_range { AreInRange self.new.potentials }
     {

@@ -6,14 +6,14 @@ use Rattle.std.proofs.lemmas.List.{get_or_append_left, get_or-set_other, get_or-
 use Rattle.dimacs_text.specs.declared.problem.ArcRow.{ArcRow}
 use Rattle.residual_graph.specs.declared.residual.Way.{Way}
 use Rattle.residual_graph.specs.Residual.{end_at, number_at, row_at}
-use Rattle.shortest_paths.specs.Tree.{AreArcsNoted, HeldView, StaysHeld}
+use Rattle.shortest_paths.specs.Tree.{AreArcsNoted, StaysHeld, TreeView}
 use Rattle.tracked.specs.Marks.{in_set}
 use Rattle.tracked.specs.Touched.{NameChanges}
 use Rattle.augmentation.specs.Held.{IsHeldIn, IsSameArc}
 use Rattle.augmentation.proofs.HeldLemmas.{held_after, noted_arc}
 
 -- the labels are held of other rows and another flow, where each arc that is another is noted, and where it led before is beside
-held_changed : (rows rows' : List ArcRow) (w w' : List ℤ) (h h' : HeldView) → StaysHeld h h'
+held_changed : (rows rows' : List ArcRow) (w w' : List ℤ) (h h' : TreeView) → StaysHeld h h'
     → (h'.is_lost ≡ false → (k : ℕ) → k < length rows' → (in_set h'.noted k ≡ true) ⊎ IsSameArc rows w rows' w' k)
     → (h'.is_lost ≡ false → (k : ℕ) → k < length rows → ((way : Way) → in_set h'.beside (end_at rows k way) ≡ true) ⊎ IsSameArc rows w rows' w' k)
     → IsHeldIn rows w h → IsHeldIn rows' w' h'
@@ -22,7 +22,7 @@ held_changed rows rows' w w' h h' stays arcs ends held found =
     (record { still_noted = stays.noted; still_beside = stays.beside; arcs = arcs found; ends = ends found }))
 
 -- more may be noted
-pub held_noted : (rows : List ArcRow) (w : List ℤ) (h h' : HeldView) → StaysHeld h h' → IsHeldIn rows w h → IsHeldIn rows w h'
+pub held_noted : (rows : List ArcRow) (w : List ℤ) (h h' : TreeView) → StaysHeld h h' → IsHeldIn rows w h → IsHeldIn rows w h'
 held_noted rows w h h' stays = held_changed rows rows w w h h' stays (λ _ k lt. inr (same k lt)) (λ _ k lt. inr (same k lt))
   where
     same : (k : ℕ) → k < length rows → IsSameArc rows w rows w k
@@ -32,7 +32,7 @@ held_noted rows w h h' stays = held_changed rows rows w w h h' stays (λ _ k lt.
 only_place : (p place : ℕ) → p ≡ place → Any (λ q. q ≡ place) (p ∷ [])
 only_place p place same = (0, p, omega arith, refl, same)
 
-module _ (rows : List ArcRow) (w : List ℤ) (h h' : HeldView) (stays : StaysHeld h h') (held : IsHeldIn rows w h) where
+module _ (rows : List ArcRow) (w : List ℤ) (h h' : TreeView) (stays : StaysHeld h h') (held : IsHeldIn rows w h) where
   -- one arc has another row, and was noted
   pub held_swapped : (rows' : List ArcRow) (place : ℕ) (row : ArcRow) → rows' ≡ slice_set rows place row → AreArcsNoted rows (place ∷ []) h' → IsHeldIn rows' w h'
   held_swapped rows' place row rows_are noted = held_changed rows rows' w w h h' stays

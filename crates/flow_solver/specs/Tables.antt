@@ -44,7 +44,7 @@ pub record AreConsistent (g : Graph) (flow : TrackedView ℤ) (potentials : Pote
   pub open fit use *
   pub balance_is : IsBalanceOf g.net g.rows flow balance
   pub told : AreAsTold g.net flow.entries potentials
-  pub held : IsHeldIn g.rows flow.whole scratch.held
+  pub held : IsHeldIn g.rows flow.whole scratch.tree
   pub step : KeepStep potentials scratch
   pub log_fits : GROUP_LIMIT ≤ vec_capacity before.log
   pub before_is : IsKept before.verdict g.net (kept_by flow potentials.table cut before.log.items)

@@ -1,6 +1,5 @@
 //! Potentials beside what is known of them.
 
-use augmentation::Apart;
 use tracked::Tracked;
 
 /// The potential of each node, with an entry for no node in front.
@@ -9,6 +8,4 @@ pub struct Potentials {
     pub table: Tracked<i64>,
     /// Whether they are known to be the greatest that certify the flow.
     pub greatest: bool,
-    /// The nodes at which they may differ from the labels that the searches hold.
-    pub apart: Apart,
 }

@@ -51,7 +51,7 @@ pub fn push_and_raise(
     requires ready { IsReady graph.now flow.old.entries potentials.old.table.entries excess.old }
     requires told { AreAsTold graph.now.net flow.old.entries potentials.old }
     requires scratch_in { length scratch.old.potentials ≡ length excess.old }
-    requires held { IsHeldIn graph.now.rows flow.old.whole scratch.old.held }
+    requires held { IsHeldIn graph.now.rows flow.old.whole scratch.old.tree }
     requires step { KeepStep potentials.old scratch.old }
     ensures flow_written { IsWritten flow.old flow.new }
     ensures potentials_written { IsWritten potentials.old.table potentials.new.table }
@@ -63,16 +63,15 @@ pub fn push_and_raise(
     ensures parted { IsParted graph.now.rows flow.new.entries excess.new }
     ensures marked { IsTrue result.are_marked → AreOnSide Ahead graph.now.rows flow.new.entries excess.new scratch.new.marks }
     ensures scratch_in { length scratch.new.potentials ≡ length excess.new }
-    ensures held { IsHeldIn graph.now.rows flow.new.whole scratch.new.held }
+    ensures held { IsHeldIn graph.now.rows flow.new.whole scratch.new.tree }
     ensures step { KeepStep potentials.new scratch.new }
 {
     if potentials.greatest && !excess.has_both() {
         return Pushed::counted(0);
     }
     let table = &mut potentials.table;
-    let apart = &mut potentials.apart;
-    let Some(count) = push_proposed(graph, flow, excess, table, apart, scratch) else {
-        let count = push_all(graph, flow, excess, table, apart, scratch);
+    let Some(count) = push_proposed(graph, flow, excess, table, scratch) else {
+        let count = push_all(graph, flow, excess, table, scratch);
         return Pushed::counted(count);
     };
     // After a cold solve the list still holds all nodes that had a supply.
@@ -86,7 +85,7 @@ pub fn push_and_raise(
             are_marked: true,
         };
     }
-    let more = push_all(graph, flow, excess, table, apart, scratch);
+    let more = push_all(graph, flow, excess, table, scratch);
     Pushed {
         count: count + more,
         are_marked: false,

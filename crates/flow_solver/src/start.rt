@@ -8,7 +8,7 @@ ghost use Rattle.residual_graph.specs.Limits.{row_limit};
 
 use crate::balance::Balance;
 use crate::potentials::Potentials;
-use augmentation::{Apart, Cut, Scratch};
+use augmentation::{Cut, Scratch};
 use dimacs_text::ArcRow;
 use residual_graph::Graph;
 use std::alloc::{AllocError, Global};
@@ -79,22 +79,19 @@ pub fn start_nodes(
     ensures potentials { IfOk result (λ t. t.0.table.entries ≡ replicate (nodes + 1) (pos 0)) }
     ensures potentials_kept { IfOk result (λ t. t.0.table.kept ≡ replicate (nodes + 1) (pos 0)) }
     ensures told { IfOk result (λ t. t.0.greatest ≡ false) }
-    ensures apart { IfOk result (λ t. length t.0.apart.nodes ≡ nodes + 1) }
-    ensures all_apart { IfOk result (λ t. t.0.apart.are_all ≡ true) }
     ensures cut { IfOk result (λ t. t.1.entries ≡ replicate (nodes + 1) false) }
     ensures cut_kept { IfOk result (λ t. t.1.kept ≡ replicate (nodes + 1) false) }
     ensures scratch { IfOk result (λ t. length t.2.potentials ≡ nodes + 1) }
-    ensures lost { IfOk result (λ t. t.2.held.is_lost ≡ true) }
+    ensures lost { IfOk result (λ t. t.2.tree.is_lost ≡ true) }
+    ensures apart { IfOk result (λ t. t.2.tree.are_apart ≡ true) }
 {
     let entries = nodes as usize + 1;
     let potentials = zeros(alloc, entries)?;
-    let apart = Apart::new(alloc, entries)?;
     let cut = Cut::new(alloc, entries)?;
     let scratch = Scratch::new(alloc, nodes + 1, arcs)?;
     let potentials = Potentials {
         table: potentials,
         greatest: false,
-        apart,
     };
     Ok((potentials, cut, scratch))
 }

@@ -1,4 +1,5 @@
 pub mod SearchLemmas
 pub mod StepLemmas
+pub mod TreeLemmas
 pub mod LabelLemmas
 pub mod LevelLemmas

@@ -5,9 +5,8 @@ use Rattle.shortest_paths.specs.declared.tree.Tree.TheInside.{Inside}
 
 -- each table of nodes has as many entries as there are labels
 pub record AreTables (t : Inside) : Type 0 where
-  pub predecessors_sized : length t.predecessors.entries ≡ length t.labels.entries
-  pub held_sized : length t.labels.kept ≡ length t.labels.entries
-  pub held_predecessors_sized : length t.predecessors.kept ≡ length t.labels.entries
-  pub beside_sized : length t.beside ≡ length t.labels.entries
-  pub frontier_sized : t.frontier ≡ length t.labels.entries
-  pub few : length t.labels.entries ≤ row_limit
+  pub predecessors_sized : length t.predecessors.items ≡ length t.labels.items
+  pub touched_sized : length t.touched ≡ length t.labels.items
+  pub beside_sized : length t.beside ≡ length t.labels.items
+  pub frontier_sized : t.frontier ≡ length t.labels.items
+  pub few : length t.labels.items ≤ row_limit

@@ -1,11 +1,11 @@
 //! The tree of labels, kept from flow to flow: where edits and pushes broke it, it is mended.
 //!
-//! Proved is that each call returns, that no index, sum or cast leaves its range, and that what is held stays as it is while
-//! labels are looked for. Nothing is proved of these labels: who takes them tests them, and has them accepted.
+//! Proved is that each call returns, that no index, sum or cast leaves its range, and that each label and predecessor that is written
+//! is marked. Nothing else is proved of labels that are looked for: who takes them tests them, and has them accepted.
 
 ghost use Rattle.std.specs.Prelude.{◌≡◌, ◌<◌, ◌≤◌, IfOk, IfSome, length, true};
 ghost use Rattle.residual_graph.specs.Limits.{row_limit};
-ghost use Rattle.shortest_paths.specs.Tree.{AgreeUnmarked, AreArcsNoted, IsNotedIn, IsTreeOf, StaysHeld};
+ghost use Rattle.shortest_paths.specs.Tree.{AreArcsNoted, IsMarkedToo, IsNotedIn, IsRelabelled, IsTreeOf, StaysHeld};
 
 mod joining;
 mod near;
@@ -19,7 +19,7 @@ use containers::{Frontier, State, both};
 use residual_graph::Graph;
 use std::alloc::{AllocError, Global};
 use std::marker::Model;
-use tracked::{Touched, Tracked};
+use tracked::Touched;
 
 /// The label of a node that is loose: any other is lower, also where a cost is taken off this one.
 const FAR: i64 = i64::MAX / 2;
@@ -47,14 +47,17 @@ enum Knowledge {
 /// The labels of all nodes, and how each node got its own. A node whose predecessor no longer leads to it is loose.
 #[derive(Drop)]
 pub struct Tree {
-    /// The labels, beside those that were tested last.
-    labels: Tracked<i64>,
-    predecessors: Tracked<Predecessor>,
+    labels: Vec<i64>,
+    predecessors: Vec<Predecessor>,
+    /// The nodes whose label or predecessor was written since labels were tested.
+    touched: Touched,
     /// The rows of arcs that may have changed since labels were tested, or whose flow may have.
     noted: Touched,
     /// The nodes at the ends of these arcs.
     beside: Touched,
     knowledge: Knowledge,
+    /// Whether any potential may be another than the label; else only those of touched nodes may.
+    are_apart: bool,
     /// What is taken off the potentials that are likely to certify, so that none is above 0.
     taken_off: i64,
     loose: Vec<u32>,
@@ -69,34 +72,23 @@ pub struct Tree {
 
 impl Model for Tree {
     ghost use Rattle.shortest_paths.specs.Knowledge.{is_lost_by};
-    ghost use Rattle.shortest_paths.specs.Tree.{HeldView, TreeView};
+    ghost use Rattle.shortest_paths.specs.Tree.{TreeView};
 
     ghost Value = { TreeView };
 
     ghost view = { λ t. record {
-      labels = t.labels.entries;
-      predecessors = t.predecessors.entries;
-      held = record {
-        labels = t.labels.kept;
-        predecessors = t.predecessors.kept;
-        noted = t.noted;
-        beside = t.beside;
-        is_lost = is_lost_by t.knowledge;
-      };
+      labels = t.labels.items;
+      predecessors = t.predecessors.items;
+      touched = t.touched;
+      noted = t.noted;
+      beside = t.beside;
+      is_lost = is_lost_by t.knowledge;
+      are_apart = t.are_apart;
     } };
 
     ghost use Rattle.shortest_paths.specs.TreeTables.{AreTables};
 
     ghost invariant = { AreTables };
-}
-
-/// So many entries with this value, all of them kept.
-fn filled<T: Copy>(alloc: Global, value: T, entries: usize) -> Result<Tracked<T>, AllocError>
-    requires few { entries ≤ row_limit }
-    ensures entries { IfOk result (λ t. length t.entries ≡ entries) }
-    ensures kept { IfOk result (λ t. length t.kept ≡ entries) }
-{
-    Tracked::new(alloc, vec![in alloc; value; entries]?, entries)
 }
 
 impl Tree {
@@ -107,25 +99,30 @@ impl Tree {
     pub fn new(alloc: Global, entries: usize, arcs: usize) -> Result<Tree, AllocError>
         requires { entries ≤ row_limit }
         ensures sized { IfOk result (λ t. length t.labels ≡ entries) }
-        ensures lost { IfOk result (λ t. t.held.is_lost ≡ true) }
+        ensures lost { IfOk result (λ t. t.is_lost ≡ true) }
+        ensures apart { IfOk result (λ t. t.are_apart ≡ true) }
     {
-        let labels = filled(alloc, 0, entries);
-        let predecessors = filled(alloc, Predecessor::root(), entries);
+        let labels = vec![in alloc; 0; entries];
+        let predecessors = vec![in alloc; Predecessor::root(); entries];
+        let touched = Touched::new(alloc, entries);
         let noted = Touched::new(alloc, arcs.min(MOST_ROWS));
         let beside = Touched::new(alloc, entries);
         let loose = Vec::with_capacity(alloc, entries);
         let frontier = Frontier::opened(alloc, entries);
         let forest = Forest::new(alloc, entries);
-        let (((labels, predecessors), (noted, beside)), ((loose, frontier), forest)) = both(
-            both(both(labels, predecessors), both(noted, beside)),
-            both(both(loose, frontier), forest),
-        )?;
+        let (((labels, predecessors), (touched, forest)), ((noted, beside), (loose, frontier))) =
+            both(
+                both(both(labels, predecessors), both(touched, forest)),
+                both(both(noted, beside), both(loose, frontier)),
+            )?;
         Ok(Tree {
             labels,
             predecessors,
+            touched,
             noted,
             beside,
             knowledge: Knowledge::Nothing,
+            are_apart: true,
             taken_off: 0,
             loose,
             frontier,
@@ -139,7 +136,7 @@ impl Tree {
     pub fn labels(&self) -> &[i64]
         ensures { result.now ≡ self.now.labels }
     {
-        self.labels.entries()
+        &self.labels
     }
 
     /// How each node got its label.
@@ -147,44 +144,33 @@ impl Tree {
         ensures value { result.now ≡ self.now.predecessors }
         ensures as_many { length result.now ≡ length self.now.labels }
     {
-        self.predecessors.entries()
+        &self.predecessors
     }
 
-    /// Where labels may be others than those that were tested.
-    pub fn relabelled(&self) -> &Touched
-        ensures elsewhere { AgreeUnmarked result.now self.now.held.labels self.now.labels }
-        ensures room { length self.now.labels ≤ length result.now }
-        ensures as_many { length self.now.held.labels ≡ length self.now.labels }
+    /// The nodes whose label or predecessor may be another than the one that was tested, or than the potential.
+    pub fn touched(&self) -> &Touched
+        ensures { result.now ≡ self.now.touched }
     {
-        self.labels.written()
-    }
-
-    /// Where predecessors may be others than those that were tested.
-    pub fn rehung(&self) -> &Touched
-        ensures elsewhere { AgreeUnmarked result.now self.now.held.predecessors
-            self.now.predecessors }
-        ensures room { length self.now.labels ≤ length result.now }
-    {
-        self.predecessors.written()
+        &self.touched
     }
 
     /// The arcs that are noted.
     pub fn noted(&self) -> &Touched
-        ensures { result.now ≡ self.now.held.noted }
+        ensures { result.now ≡ self.now.noted }
     {
         &self.noted
     }
 
     /// The nodes at the arcs that are noted.
     pub fn beside(&self) -> &Touched
-        ensures { result.now ≡ self.now.held.beside }
+        ensures { result.now ≡ self.now.beside }
     {
         &self.beside
     }
 
     /// Whether more changed than is noted, or no labels were tested.
     pub fn is_lost(&self) -> bool
-        ensures { result ≡ self.now.held.is_lost }
+        ensures { result ≡ self.now.is_lost }
     {
         match self.knowledge {
             Knowledge::Held => false,
@@ -192,13 +178,34 @@ impl Tree {
         }
     }
 
+    /// Whether any potential may be another than the label.
+    pub fn are_apart(&self) -> bool
+        ensures { result ≡ self.now.are_apart }
+    {
+        self.are_apart
+    }
+
+    /// Notes that the potential of a node may be another than the label, which is to be tested.
+    pub fn note_label(&mut self, v: usize)
+        requires node { v < length self.old.labels }
+        ensures same { self.new ≡ record self.old { touched = self.new.touched } }
+        ensures marked { IsMarkedToo v self.old.touched self.new.touched }
+    {
+        self.touched.note(v);
+    }
+
+    /// Notes that any potential may be.
+    pub fn note_labels(&mut self)
+        ensures { self.new ≡ record self.old { are_apart = true } }
+    {
+        self.are_apart = true;
+    }
+
     /// Notes that an arc may have got another row or another flow, and the nodes at its ends. A place past the rows stands for
     /// no arc.
     pub fn note(&mut self, graph: &Graph, k: usize)
-        ensures labels { self.new.labels ≡ self.old.labels }
-        ensures predecessors { self.new.predecessors ≡ self.old.predecessors }
-        ensures held { StaysHeld self.old.held self.new.held }
-        ensures noted { k < length graph.now.rows → IsNotedIn graph.now.rows self.new.held k }
+        ensures held { StaysHeld self.old self.new }
+        ensures noted { k < length graph.now.rows → IsNotedIn graph.now.rows self.new k }
     {
         if k >= graph.rows().len() {
             return;
@@ -219,10 +226,8 @@ impl Tree {
     /// Notes all these arcs so. If nothing is held, and nothing was noted since, many are not noted: mostly the labels
     /// were found after these arcs changed.
     pub fn note_all(&mut self, graph: &Graph, places: &[u32])
-        ensures labels { self.new.labels ≡ self.old.labels }
-        ensures predecessors { self.new.predecessors ≡ self.old.predecessors }
-        ensures held { StaysHeld self.old.held self.new.held }
-        ensures noted { AreArcsNoted graph.now.rows places.now self.new.held }
+        ensures held { StaysHeld self.old self.new }
+        ensures noted { AreArcsNoted graph.now.rows places.now self.new }
     {
         if self.is_lost() && self.noted.places().is_empty() && are_many(graph, places) {
             return;
@@ -241,22 +246,21 @@ impl Tree {
 
     /// Forgets what is held: the labels are to be found anew.
     pub fn forget(&mut self)
-        ensures { self.new ≡ record self.old { held = record self.old.held { is_lost = true } } }
+        ensures { self.new ≡ record self.old { is_lost = true; are_apart = true } }
     {
         self.knowledge = Knowledge::Nothing;
+        self.are_apart = true;
     }
 
-    /// Holds the labels, which were tested; the flow of these arcs may be brought back. Where many arcs were written nothing is
+    /// Holds the labels, which were tested and are the potentials; the flow of these arcs may be brought back. Where many arcs were written nothing is
     /// held, since the next test would have to look at all of them: a test of all labels in turn is quicker.
     pub fn accept(&mut self, graph: &Graph, written: &[u32])
         ensures labels { self.new.labels ≡ self.old.labels }
         ensures predecessors { self.new.predecessors ≡ self.old.predecessors }
-        ensures held_labels { self.new.held.labels ≡ self.old.labels }
-        ensures held_predecessors { self.new.held.predecessors ≡ self.old.predecessors }
-        ensures noted { AreArcsNoted graph.now.rows written.now self.new.held }
+        ensures noted { AreArcsNoted graph.now.rows written.now self.new }
     {
-        self.labels.snapshot();
-        self.predecessors.snapshot();
+        self.touched.clear();
+        self.are_apart = false;
         self.noted.clear();
         self.beside.clear();
         if are_many(graph, written) {
@@ -270,10 +274,10 @@ impl Tree {
     /// Finds all labels anew, from all nodes with label 0. Says whether all may be right.
     pub fn search(&mut self, residual: Residual<'_>) -> bool
         ensures sized { length self.new.labels ≡ length self.old.labels }
-        ensures held { self.new.held ≡ self.old.held }
+        ensures marked { IsRelabelled self.old self.new }
     {
         let nodes = residual.potentials.len();
-        if self.labels.entries().len() != nodes || residual.ends.entries() != nodes {
+        if self.labels.len() != nodes || residual.ends.entries() != nodes {
             return false;
         }
         self.begin();
@@ -288,10 +292,10 @@ impl Tree {
     /// now.
     pub fn mend(&mut self, residual: Residual<'_>, written: &[u32]) -> bool
         ensures sized { length self.new.labels ≡ length self.old.labels }
-        ensures held { self.new.held ≡ self.old.held }
+        ensures marked { IsRelabelled self.old self.new }
     {
         let nodes = residual.potentials.len();
-        if self.labels.entries().len() != nodes || residual.ends.entries() != nodes {
+        if self.labels.len() != nodes || residual.ends.entries() != nodes {
             return false;
         }
         if let Knowledge::Nothing = self.knowledge {
@@ -299,7 +303,7 @@ impl Tree {
         }
         self.rejoin_changed(residual, written);
         let is_mended = self.mend_near(residual, written) || self.mend_whole(residual, written);
-        self.rejoin_rehung(residual);
+        self.rejoin_touched(residual);
         is_mended
     }
 
@@ -331,10 +335,11 @@ impl Tree {
     fn put(&mut self, v: usize, label: i64, predecessor: Predecessor)
         requires node { v < length self.old.labels }
         ensures sized { length self.new.labels ≡ length self.old.labels }
-        ensures held { self.new.held ≡ self.old.held }
+        ensures marked { IsRelabelled self.old self.new }
     {
-        self.labels.set(v, label);
-        self.predecessors.set(v, predecessor);
+        self.labels[v] = label;
+        self.predecessors[v] = predecessor;
+        self.touched.note(v);
     }
 
     /// The predecessor of a node to which a residual arc leads from this one, where it leaves at this end.
@@ -354,21 +359,21 @@ impl Tree {
     fn rank_beyond(&self, u: u32) -> u32
         requires node { u < length self.now.labels }
     {
-        self.predecessors.get(u as usize).rank.saturating_add(1)
+        self.predecessors[u as usize].rank.saturating_add(1)
     }
 
     /// The label to which a residual arc leads.
     fn label_by(&self, step: Step) -> i64
         requires start { step.start < length self.now.labels }
     {
-        raised(self.labels.get(step.start as usize), step.cost)
+        raised(self.labels[step.start as usize], step.cost)
     }
 
     /// Has the loose nodes wait.
     fn hang_all(&mut self, residual: Residual<'_>)
         requires sized { IsTreeOf residual self.old }
         ensures sized { IsTreeOf residual.entry self.new }
-        ensures held { self.new.held ≡ self.old.held }
+        ensures marked { IsRelabelled self.old self.new }
     {
         for i in 0..self.loose.len() {
             let v = entry(&self.loose, i);
@@ -383,7 +388,7 @@ impl Tree {
         requires sized { IsTreeOf residual self.old }
         requires node { v < length residual.potentials.now }
         ensures sized { IsTreeOf residual.entry self.new }
-        ensures held { self.new.held ≡ self.old.held }
+        ensures marked { IsRelabelled self.old self.new }
     {
         // No label is below the node's potential, if the potentials certify the flow.
         let least = self.potential(residual, v as usize);
@@ -392,7 +397,7 @@ impl Tree {
         let ends = residual.ends.at(v as usize);
         for i in 0..ends.links.len() {
             let link = ends.links[i];
-            let by = lowered(self.labels.get(link.other as usize), link.cost);
+            let by = lowered(self.labels[link.other as usize], link.cost);
             if by < label
                 && link.room_back::<true>() > 0
                 && self.frontier.state(link.other as usize) != State::Open
@@ -413,7 +418,7 @@ impl Tree {
         requires sized { IsTreeOf residual self.old }
         requires node { v < length residual.potentials.now }
         ensures sized { IsTreeOf residual.entry self.new }
-        ensures held { self.new.held ≡ self.old.held }
+        ensures marked { IsRelabelled self.old self.new }
     {
         self.put(v as usize, label, predecessor);
         let key = self.key(residual, v as usize);
@@ -431,7 +436,7 @@ impl Tree {
         requires sized { IsTreeOf residual self.now }
         requires node { v < length residual.potentials.now }
     {
-        lowered(self.labels.get(v), self.potential(residual, v))
+        lowered(self.labels[v], self.potential(residual, v))
     }
 
     /// Has no node wait. None is to come with a key below 0.
@@ -465,7 +470,7 @@ impl Tree {
     fn scan_at_most(&mut self, residual: Residual<'_>, most: usize, others_are_last: bool) -> bool
         requires sized { IsTreeOf residual self.old }
         ensures sized { IsTreeOf residual.entry self.new }
-        ensures held { self.new.held ≡ self.old.held }
+        ensures marked { IsRelabelled self.old self.new }
     {
         for _ in 0..most {
             if others_are_last && self.waiting == 0 {
@@ -484,14 +489,14 @@ impl Tree {
         requires sized { IsTreeOf residual self.old }
         requires node { u < length residual.potentials.now }
         ensures sized { IsTreeOf residual.entry self.new }
-        ensures held { self.new.held ≡ self.old.held }
+        ensures marked { IsRelabelled self.old self.new }
     {
         let ends = residual.ends.at(u as usize);
-        let label = self.labels.get(u as usize);
+        let label = self.labels[u as usize];
         for i in 0..ends.links.len() {
             let link = ends.links[i];
             let by = raised(label, link.cost);
-            if by < self.labels.get(link.other as usize) && link.room::<true>() > 0 {
+            if by < self.labels[link.other as usize] && link.room::<true>() > 0 {
                 let predecessor = self.beyond(u, ends.numbers[i]);
                 self.wait(residual, link.other, by, predecessor);
             }

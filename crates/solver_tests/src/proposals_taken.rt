@@ -4,7 +4,7 @@ ghost use Rattle.std.specs.Prelude.{◌≡◌, IfOk, length};
 
 use crate::start::{MOST_ROWS, are_ready, start_flow};
 use crate::steps::{prepare, take_up};
-use augmentation::{Apart, Excess, Scratch};
+use augmentation::{Excess, Scratch};
 use dimacs_text::{ProblemReader, TextFault};
 use network::{build, check_best};
 use proposals::{FlowChange, Wanted};
@@ -249,7 +249,6 @@ struct Start {
     flow: Tracked<i64>,
     excess: Excess,
     potentials: Tracked<i64>,
-    apart: Apart,
 }
 
 /// The graph of a problem text.
@@ -339,7 +338,6 @@ fn push_from(
     assert!(rt; ready);
     let entries = start.potentials.entries().len();
     assert!(rt; run.scratch.potentials().len() == entries);
-    assert!(rt; start.apart.nodes.size() == entries);
     prepare(
         &run.graph,
         start.flow.entries(),
@@ -353,7 +351,6 @@ fn push_from(
         &mut start.flow,
         &mut start.excess,
         &mut start.potentials,
-        &mut start.apart,
         &mut run.scratch,
     )
 }
@@ -374,12 +371,10 @@ fn start_of(rt: &impl Abort, alloc: Global, run: &Run) -> Result<Start, AllocErr
     let flow = tracked_of(rt, alloc, start_flow(alloc, run.graph.rows())?)?;
     let excess = excess_of(rt, alloc, run.balance)?;
     let potentials = tracked_of(rt, alloc, vec![in alloc; 0; entries]?)?;
-    let apart = Apart::new(alloc, entries)?;
     Ok(Start {
         flow,
         excess,
         potentials,
-        apart,
     })
 }
 

@@ -3,7 +3,7 @@
 ghost use Rattle.std.specs.Prelude.{◌≡◌, length};
 ghost use Rattle.augmentation.specs.Pseudoflow.{IsCertifiedPseudoflow, IsReady};
 
-use augmentation::{Apart, Excess, Scratch, adopt, finish};
+use augmentation::{Excess, Scratch, adopt, finish};
 use proposals::Wanted;
 use residual_graph::Graph;
 use tracked::Tracked;
@@ -38,16 +38,13 @@ pub fn take_up(
     flow: &mut Tracked<i64>,
     excess: &mut Excess,
     potentials: &mut Tracked<i64>,
-    apart: &mut Apart,
     scratch: &mut Scratch,
 ) -> (Option<u64>, u64)
     requires ready { IsReady graph.now flow.old.entries potentials.old.entries excess.old }
     requires scratch_in { length scratch.old.potentials ≡ length potentials.old.entries }
-    requires apart_in { length apart.old.nodes ≡ length potentials.old.entries }
 {
     scratch.forget();
-    apart.are_all = true;
-    let adopted = adopt(graph, flow, excess, potentials, apart, scratch);
+    let adopted = adopt(graph, flow, excess, potentials, scratch);
     scratch.take_potentials(potentials.entries());
     (adopted, finish(graph, flow, excess, scratch))
 }

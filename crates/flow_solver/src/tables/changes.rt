@@ -278,7 +278,6 @@ impl Tables {
             &self.flow,
             &self.balance.excess,
             self.potentials.table.entries(),
-            &mut self.potentials.apart,
             &mut self.scratch,
         );
     }
@@ -313,7 +312,7 @@ impl Tables {
         self.scratch.note_all(&self.graph, self.flow.places());
         self.flow.bring_back();
         self.potentials.table.bring_back();
-        self.potentials.apart.are_all = true;
+        self.scratch.note_potentials();
         self.cut.bring_back();
         self.verdict = verdict;
     }

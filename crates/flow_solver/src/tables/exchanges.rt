@@ -51,7 +51,7 @@ impl Tables {
         self.before.verdict = None;
         self.potentials.greatest = false;
         exchange_node(&mut self.potentials.table, id, value);
-        self.potentials.apart.nodes.note(id as usize);
+        self.scratch.note_potential(id as usize);
     }
 
     /// Exchanges the mark of a node.

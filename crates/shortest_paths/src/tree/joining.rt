@@ -66,11 +66,11 @@ impl Tree {
     }
 
     /// Has the nodes hang so that may have another predecessor.
-    pub(super) fn rejoin_rehung(&mut self, residual: Residual<'_>)
+    pub(super) fn rejoin_touched(&mut self, residual: Residual<'_>)
         ensures { self.new ≡ self.old }
     {
-        for i in 0..self.predecessors.places().len() {
-            let v = entry(self.predecessors.places(), i);
+        for i in 0..self.touched.places().len() {
+            let v = entry(self.touched.places(), i);
             if self.forest.joint(v).end != self.end_above(v) {
                 self.rejoin(residual, v);
             }
@@ -87,9 +87,8 @@ impl Tree {
 
     /// The end at which the residual arc leaves by which a node got its label, or one that no arc has.
     fn end_above(&self, v: u32) -> u32 {
-        let predecessors = self.predecessors.entries();
-        if (v as usize) < predecessors.len() {
-            predecessors[v as usize].end
+        if (v as usize) < self.predecessors.len() {
+            self.predecessors[v as usize].end
         } else {
             u32::MAX
         }

@@ -1,7 +1,7 @@
 //! The tree of labels mended near the arcs that changed, where few nodes are to be looked at.
 
 ghost use Rattle.std.specs.Prelude.{◌≡◌, ◌<◌, length};
-ghost use Rattle.shortest_paths.specs.Tree.{IsTreeOf};
+ghost use Rattle.shortest_paths.specs.Tree.{IsRelabelled, IsTreeOf};
 
 use super::{FAR, Tree, lowered};
 use crate::predecessor::Predecessor;
@@ -29,7 +29,7 @@ impl Tree {
     pub(super) fn mend_near(&mut self, residual: Residual<'_>, written: &[u32]) -> bool
         requires sized { IsTreeOf residual self.old }
         ensures sized { IsTreeOf residual.entry self.new }
-        ensures held { self.new.held ≡ self.old.held }
+        ensures marked { IsRelabelled self.old self.new }
     {
         self.begin();
         self.loose.clear();
@@ -58,12 +58,12 @@ impl Tree {
     fn loosen_along(&mut self, residual: Residual<'_>, end: u32)
         requires sized { IsTreeOf residual self.old }
         ensures sized { IsTreeOf residual.entry self.new }
-        ensures held { self.new.held ≡ self.old.held }
+        ensures marked { IsRelabelled self.old self.new }
     {
         let Some(step) = Step::at(residual, end) else {
             return;
         };
-        let label = self.labels.get(step.far as usize);
+        let label = self.labels[step.far as usize];
         let leads = step.is_open && self.label_by(step) <= label;
         if self.hangs(step.far, end) && !leads {
             self.loosen(residual, step.far);
@@ -74,7 +74,7 @@ impl Tree {
     fn hangs(&self, v: u32, end: u32) -> bool
         requires node { v < length self.now.labels }
     {
-        self.predecessors.get(v as usize).end == end && self.labels.get(v as usize) < 0
+        self.predecessors[v as usize].end == end && self.labels[v as usize] < 0
     }
 
     /// Loosens a node, unless it can hang on another one at its label while few are loose.
@@ -82,14 +82,15 @@ impl Tree {
         requires sized { IsTreeOf residual self.old }
         requires node { v < length residual.potentials.now }
         ensures sized { IsTreeOf residual.entry self.new }
-        ensures held { self.new.held ≡ self.old.held }
+        ensures marked { IsRelabelled self.old self.new }
     {
         if self.loose.len() < FEW_LOOSE && self.rehang(residual, v) {
             return;
         }
         if self.loose.len() < self.loose.capacity() {
             self.loose.push_reserved(v);
-            self.labels.set(v as usize, FAR);
+            let predecessor = self.predecessors[v as usize];
+            self.put(v as usize, FAR, predecessor);
         }
     }
 
@@ -98,17 +99,17 @@ impl Tree {
         requires sized { IsTreeOf residual self.old }
         requires node { v < length residual.potentials.now }
         ensures sized { IsTreeOf residual.entry self.new }
-        ensures held { self.new.held ≡ self.old.held }
+        ensures marked { IsRelabelled self.old self.new }
     {
-        let label = self.labels.get(v as usize);
-        let hung = self.predecessors.get(v as usize);
+        let label = self.labels[v as usize];
+        let hung = self.predecessors[v as usize];
         let mut end = hung.end;
         let ends = residual.ends.at(v as usize);
         for i in 0..ends.links.len() {
             let link = ends.links[i];
-            if lowered(self.labels.get(link.other as usize), link.cost) == label
+            if lowered(self.labels[link.other as usize], link.cost) == label
                 && link.room_back::<true>() > 0
-                && self.predecessors.get(link.other as usize).rank < hung.rank
+                && self.predecessors[link.other as usize].rank < hung.rank
             {
                 end = across(ends.numbers[i]);
                 break;
@@ -117,8 +118,7 @@ impl Tree {
         if end == hung.end {
             return false;
         }
-        self.predecessors
-            .set(v as usize, Predecessor { end, ..hung });
+        self.put(v as usize, label, Predecessor { end, ..hung });
         self.forest.hang(residual, v, end);
         true
     }
@@ -127,7 +127,7 @@ impl Tree {
     fn loosen_below(&mut self, residual: Residual<'_>) -> bool
         requires sized { IsTreeOf residual self.old }
         ensures sized { IsTreeOf residual.entry self.new }
-        ensures held { self.new.held ≡ self.old.held }
+        ensures marked { IsRelabelled self.old self.new }
     {
         let nodes = residual.potentials.len();
         for i in 0..nodes / MOST_LOOSE {
@@ -147,7 +147,7 @@ impl Tree {
     fn loosen_beyond(&mut self, residual: Residual<'_>, u: u32)
         requires sized { IsTreeOf residual self.old }
         ensures sized { IsTreeOf residual.entry self.new }
-        ensures held { self.new.held ≡ self.old.held }
+        ensures marked { IsRelabelled self.old self.new }
     {
         if u as usize >= residual.potentials.len() {
             return;
@@ -198,8 +198,8 @@ impl Tree {
 
     /// How far the potential of a node is from its label.
     fn gap(&self, residual: Residual<'_>, v: usize) -> i64 {
-        if v < residual.potentials.len() && v < self.labels.entries().len() {
-            lowered(residual.potentials[v], self.labels.get(v))
+        if v < residual.potentials.len() && v < self.labels.len() {
+            lowered(residual.potentials[v], self.labels[v])
         } else {
             0
         }
@@ -209,13 +209,13 @@ impl Tree {
     fn improve_along(&mut self, residual: Residual<'_>, end: u32)
         requires sized { IsTreeOf residual self.old }
         ensures sized { IsTreeOf residual.entry self.new }
-        ensures held { self.new.held ≡ self.old.held }
+        ensures marked { IsRelabelled self.old self.new }
     {
         let Some(step) = Step::at(residual, end) else {
             return;
         };
         let label = self.label_by(step);
-        if step.is_open && label < self.labels.get(step.far as usize) {
+        if step.is_open && label < self.labels[step.far as usize] {
             let predecessor = self.beyond(step.start, end);
             self.wait(residual, step.far, label, predecessor);
         }

@@ -2,7 +2,7 @@
 //! as before.
 
 ghost use Rattle.std.specs.Prelude.{◌≡◌, ◌<◌, length};
-ghost use Rattle.shortest_paths.specs.Tree.{IsTreeOf};
+ghost use Rattle.shortest_paths.specs.Tree.{IsRelabelled, IsTreeOf};
 
 use super::{FAR, MOST_SCANNED, Tree, entry, lowered, raised};
 use crate::predecessor::Predecessor;
@@ -23,10 +23,10 @@ impl Tree {
     pub(super) fn mend_whole(&mut self, residual: Residual<'_>, written: &[u32]) -> bool
         requires sized { IsTreeOf residual self.old }
         ensures sized { IsTreeOf residual.entry self.new }
-        ensures held { self.new.held ≡ self.old.held }
+        ensures marked { IsRelabelled self.old self.new }
     {
         self.begin();
-        self.rejoin_rehung(residual);
+        self.rejoin_touched(residual);
         self.relabel_all(residual);
         self.reach_tops(residual);
         self.reach_along_all(residual, written);
@@ -40,7 +40,7 @@ impl Tree {
     fn relabel_all(&mut self, residual: Residual<'_>)
         requires sized { IsTreeOf residual self.old }
         ensures sized { IsTreeOf residual.entry self.new }
-        ensures held { self.new.held ≡ self.old.held }
+        ensures marked { IsRelabelled self.old self.new }
     {
         let mut greatest = i64::MIN;
         for v in 1..residual.potentials.len() {
@@ -49,8 +49,9 @@ impl Tree {
         self.lower(greatest);
         for v in 1..residual.potentials.len() {
             let label = self.potential(residual, v);
-            if label != self.labels.get(v) {
-                self.labels.set(v, label);
+            if label != self.labels[v] {
+                let predecessor = self.predecessors[v];
+                self.put(v, label, predecessor);
             }
         }
     }
@@ -59,10 +60,10 @@ impl Tree {
     fn reach_tops(&mut self, residual: Residual<'_>)
         requires sized { IsTreeOf residual self.old }
         ensures sized { IsTreeOf residual.entry self.new }
-        ensures held { self.new.held ≡ self.old.held }
+        ensures marked { IsRelabelled self.old self.new }
     {
         for v in 0..residual.potentials.len() {
-            if self.labels.get(v) >= 0 {
+            if self.labels[v] >= 0 {
                 self.reach(v as u32, 0, 0);
             }
         }
@@ -78,7 +79,7 @@ impl Tree {
     #[inline(always)]
     fn is_reached(&self, v: u32) -> bool {
         let v = v as usize;
-        v >= self.labels.entries().len() || self.frontier.state(v) == State::Settled
+        v >= self.labels.len() || self.frontier.state(v) == State::Settled
     }
 
     /// Reaches nodes along the residual arcs that changed, as long as there is one: along a path of pushes blocks hang
@@ -86,7 +87,7 @@ impl Tree {
     fn reach_along_all(&mut self, residual: Residual<'_>, written: &[u32])
         requires sized { IsTreeOf residual self.old }
         ensures sized { IsTreeOf residual.entry self.new }
-        ensures held { self.new.held ≡ self.old.held }
+        ensures marked { IsRelabelled self.old self.new }
     {
         self.loose.clear();
         for i in 0..self.changed(written) {
@@ -111,14 +112,14 @@ impl Tree {
     fn reach_along(&mut self, residual: Residual<'_>, end: u32)
         requires sized { IsTreeOf residual self.old }
         ensures sized { IsTreeOf residual.entry self.new }
-        ensures held { self.new.held ≡ self.old.held }
+        ensures marked { IsRelabelled self.old self.new }
     {
         let Some(step) = Step::at(residual, end) else {
             return;
         };
         if self.is_reached(step.far)
             || !step.is_open
-            || self.label_by(step) != self.labels.get(step.far as usize)
+            || self.label_by(step) != self.labels[step.far as usize]
         {
             return;
         }
@@ -134,7 +135,7 @@ impl Tree {
     fn reach_again(&mut self, residual: Residual<'_>, end: u32)
         requires sized { IsTreeOf residual self.old }
         ensures sized { IsTreeOf residual.entry self.new }
-        ensures held { self.new.held ≡ self.old.held }
+        ensures marked { IsRelabelled self.old self.new }
     {
         if let Some(step) = Step::at(residual, end) {
             if self.is_reached(step.start) {
@@ -148,7 +149,7 @@ impl Tree {
     fn reach_others(&mut self, residual: Residual<'_>)
         requires sized { IsTreeOf residual self.old }
         ensures sized { IsTreeOf residual.entry self.new }
-        ensures held { self.new.held ≡ self.old.held }
+        ensures marked { IsRelabelled self.old self.new }
     {
         let nodes = residual.potentials.len();
         if nodes.saturating_sub(self.reached()) <= nodes / MOST_LEFT {
@@ -176,13 +177,13 @@ impl Tree {
         requires sized { IsTreeOf residual self.old }
         requires node { v < length residual.potentials.now }
         ensures sized { IsTreeOf residual.entry self.new }
-        ensures held { self.new.held ≡ self.old.held }
+        ensures marked { IsRelabelled self.old self.new }
     {
         let ends = residual.ends.at(v as usize);
-        let label = self.labels.get(v as usize);
+        let label = self.labels[v as usize];
         for i in 0..ends.links.len() {
             let link = ends.links[i];
-            if raised(label, link.cost) != self.labels.get(link.other as usize) {
+            if raised(label, link.cost) != self.labels[link.other as usize] {
                 continue;
             }
             let end = ends.numbers[i];
@@ -202,7 +203,7 @@ impl Tree {
         requires sized { IsTreeOf residual self.old }
         requires start { start < length residual.potentials.now }
         ensures sized { IsTreeOf residual.entry self.new }
-        ensures held { self.new.held ≡ self.old.held }
+        ensures marked { IsRelabelled self.old self.new }
     {
         if self.is_reached(far) || !self.is_reached(start) {
             return;
@@ -218,20 +219,21 @@ impl Tree {
     #[inline(always)]
     fn reach(&mut self, v: u32, end: u32, rank: u32)
         ensures sized { length self.new.labels ≡ length self.old.labels }
-        ensures held { self.new.held ≡ self.old.held }
+        ensures marked { IsRelabelled self.old self.new }
     {
         let place = v as usize;
-        if place >= self.labels.entries().len() || self.is_reached(v) {
+        if place >= self.labels.len() || self.is_reached(v) {
             return;
         }
-        let before = self.predecessors.get(place);
+        let before = self.predecessors[place];
         if before.end != end || before.rank < rank {
             let predecessor = Predecessor {
                 end,
                 rank,
                 is_open: false,
             };
-            self.predecessors.set(place, predecessor);
+            let label = self.labels[place];
+            self.put(place, label, predecessor);
         }
         self.frontier.settle(place);
     }
@@ -240,7 +242,7 @@ impl Tree {
     fn reach_joined(&mut self, residual: Residual<'_>, from: usize)
         requires sized { IsTreeOf residual self.old }
         ensures sized { IsTreeOf residual.entry self.new }
-        ensures held { self.new.held ≡ self.old.held }
+        ensures marked { IsRelabelled self.old self.new }
     {
         for place in from..residual.potentials.len() {
             let Some(v) = self.frontier.settled().at(place) else {
@@ -254,9 +256,9 @@ impl Tree {
     fn reach_from(&mut self, v: u32)
         requires node { v < length self.old.labels }
         ensures sized { length self.new.labels ≡ length self.old.labels }
-        ensures held { self.new.held ≡ self.old.held }
+        ensures marked { IsRelabelled self.old self.new }
     {
-        let label = self.labels.get(v as usize);
+        let label = self.labels[v as usize];
         let rank = self.rank_beyond(v);
         let joint = self.forest.joint(v);
         if joint.above != 0
@@ -266,7 +268,7 @@ impl Tree {
             self.reach(joint.above, across(joint.end), rank);
         }
         let mut below = joint.first;
-        for _ in 0..self.labels.entries().len() {
+        for _ in 0..self.labels.len() {
             if below == 0 {
                 return;
             }
@@ -281,7 +283,7 @@ impl Tree {
     /// Whether this is the label of a node.
     #[inline(always)]
     fn has_label(&self, v: u32, label: i64) -> bool {
-        (v as usize) < self.labels.entries().len() && self.labels.get(v as usize) == label
+        (v as usize) < self.labels.len() && self.labels[v as usize] == label
     }
 
     /// Has the nodes that were not reached wait: with the labels that those which were lead to, where these are most, and else
@@ -289,7 +291,7 @@ impl Tree {
     fn release_others(&mut self, residual: Residual<'_>)
         requires sized { IsTreeOf residual self.old }
         ensures sized { IsTreeOf residual.entry self.new }
-        ensures held { self.new.held ≡ self.old.held }
+        ensures marked { IsRelabelled self.old self.new }
     {
         let nodes = residual.potentials.len();
         let are_few = self.reached() > nodes / 2;
@@ -302,7 +304,7 @@ impl Tree {
                 self.wait(residual, v as u32, 0, Predecessor::root());
             } else if self.loose.len() < self.loose.capacity() {
                 self.loose.push_reserved(v as u32);
-                let predecessor = self.predecessors.get(v);
+                let predecessor = self.predecessors[v];
                 self.put(v, FAR, predecessor);
             }
         }

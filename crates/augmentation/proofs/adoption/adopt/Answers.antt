@@ -1,8 +1,10 @@
 use Rattle.std.proofs.Common.{◌≡◌, ◌∙◌, ℕ, ap, arith, length, subst, sym}
 use Rattle.residual_graph.specs.Graph.{HasEntries}
 use Rattle.residual_graph.specs.Residual.{IsPseudoflow}
+use Rattle.shortest_paths.specs.Tree.{AreInStep, TreeView}
 use Rattle.augmentation.specs.Certificate.{AreCertifying}
 use Rattle.augmentation.specs.Exchange.{IsExchange}
+use Rattle.augmentation.specs.ScratchView.{ScratchView}
 use Rattle.augmentation.specs.Settle.{AreShortest}
 use Rattle.augmentation.proofs.CertificateLemmas.{within_potentials}
 use Rattle.augmentation.proofs.ChangeLemmas.{pushes_of_change}
@@ -49,5 +51,10 @@ pub returns-clause-held : goal.returns-clause-held
 returns-clause-held c =
     let moved = c.in_ok-count.ensures.led.exchange in
     let t = c.is_renewed.new.tree in
-    held_by c.args.graph.now.rows c.lead.new.flow.whole c.lead.new.flow.entries t.labels t.predecessors c.places.result.now c.accept.new.self.held
-    (omega (arith, moved.change.after.same_length, c.places.ensures.as_many)) c.accept.ensures.held_labels c.accept.ensures.held_predecessors c.places.ensures.all_named c.accept.ensures.noted (c.is_renewed.ensures.tested c.if-not-is_renewed.false)
+    held_by c.args.graph.now.rows c.lead.new.flow.whole c.lead.new.flow.entries t.labels t.predecessors c.places.result.now c.accept.new.self
+    (omega (arith, moved.change.after.same_length, c.places.ensures.as_many)) c.accept.ensures.labels c.accept.ensures.predecessors c.places.ensures.all_named c.accept.ensures.noted (c.is_renewed.ensures.tested c.if-not-is_renewed.false)
+
+pub returns-then-not-is_renewed-clause-step : goal.returns-then-not-is_renewed-clause-step
+returns-then-not-is_renewed-clause-step c =
+    c.is_renewed.ensures.step c.args.potentials.now.entries
+    (subst (λ (t : TreeView). AreInStep t c.args.potentials.now.entries) (sym (c.lower.ensures ∙ ap (λ (v : ScratchView). v.tree) c.scratch.view_is)) c.requires.step)

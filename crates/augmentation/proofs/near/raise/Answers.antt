@@ -14,5 +14,5 @@ returns-clause-shortest c = λ yes.
 
 pub returns-clause-held : goal.returns-clause-held
 returns-clause-held c =
-    held_by c.args.graph.now.rows c.args.flow.now.whole c.args.flow.now.entries c.is_renewed.new.tree.labels c.is_renewed.new.tree.predecessors c.places.result.now c.accept.new.self.held
-    (omega (arith, c.requires.flow.same_length, c.places.ensures.as_many)) c.accept.ensures.held_labels c.accept.ensures.held_predecessors c.places.ensures.all_named c.accept.ensures.noted (c.is_renewed.ensures.tested c.if-not-is_renewed.false)
+    held_by c.args.graph.now.rows c.args.flow.now.whole c.args.flow.now.entries c.is_renewed.new.tree.labels c.is_renewed.new.tree.predecessors c.places.result.now c.accept.new.self
+    (omega (arith, c.requires.flow.same_length, c.places.ensures.as_many)) c.accept.ensures.labels c.accept.ensures.predecessors c.places.ensures.all_named c.accept.ensures.noted (c.is_renewed.ensures.tested c.if-not-is_renewed.false)

@@ -35,4 +35,4 @@ overflow_add-pushes c =
 pub returns-clause-pushed : goal.returns-clause-pushed
 returns-clause-pushed c =
     let so_far = c.loop-target.invariant.pushed in
-    record { written = so_far.written; state = c.search_on.ensures.state; held = c.search_on.ensures.held ∙ so_far.held ∙ ap (λ (s : ScratchView). s.held) c.is_parted.ensures.same; pushes = so_far.pushes }
+    record { written = so_far.written; state = c.search_on.ensures.state; held = c.search_on.ensures.held ∙ so_far.held ∙ ap (λ (s : ScratchView). s.tree) c.is_parted.ensures.same; pushes = so_far.pushes }

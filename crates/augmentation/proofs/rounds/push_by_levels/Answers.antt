@@ -15,4 +15,4 @@ overflow_add-pushes c =
 
 pub loop-scratch-preserved : goal.loop-scratch-preserved
 loop-scratch-preserved c =
-    HavePushed-more c.loop-scratch.invariant c.push_to_all-more.ensures.pushed (ap (λ (v : ScratchView). v.held) c.scratch-in-loop-scratch.view_is ∙ ap (λ (v : ScratchView). v.held) c.search_levels.ensures.same)
+    HavePushed-more c.loop-scratch.invariant c.push_to_all-more.ensures.pushed (ap (λ (v : ScratchView). v.tree) c.scratch-in-loop-scratch.view_is ∙ ap (λ (v : ScratchView). v.tree) c.search_levels.ensures.same)

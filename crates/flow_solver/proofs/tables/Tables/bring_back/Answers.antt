@@ -1,4 +1,5 @@
 use Rattle.std.proofs.Common.{◌≡◌, ◌∙◌, List, ap, arith, length, refl, subst, sym}
+use Rattle.std.proofs.lemmas.Bool.{true≢false}
 use Rattle.dimacs_text.specs.declared.problem.ArcRow.{ArcRow}
 use Rattle.network.specs.Instance.{reduced}
 use Rattle.flow_solver.specs.Balance.{IsWrappedExcess}
@@ -28,13 +29,13 @@ invariant_of-self c =
         idle = subst IsIdleEntry (sym c.bring_back-2.ensures.entries) inv.kept_idle;
         kept_idle = subst IsIdleEntry (sym c.bring_back-2.ensures.kept) inv.kept_idle;
         cut_in = record { entries_in = rw c.bring_back-3.ensures.entries inv.cut_in.kept_in; kept_in = rw c.bring_back-3.ensures.kept inv.cut_in.kept_in };
-        scratch_in = ap (λ (v : ScratchView). length v.potentials) c.note_all.ensures.same ∙ inv.scratch_in;
+        scratch_in = rw c.note_potentials.ensures (ap (λ (v : ScratchView). length v.potentials) c.note_all.ensures.same ∙ inv.scratch_in);
       };
       balance_is = balance_back I t.graph.rows t.flow c.bring_back.new.self t.balance _ c.bring_back.ensures.none_added c.bring_back.ensures.entries c.bring_back.ensures.whole
           c.carry_back.ensures.same_length excess refl inv.balance_is;
       told = λ none. cc;
-      step = record { sized = rw c.bring_back-2.ensures.entries (inv.step.sized ∙ inv.potentials_in.entries_in ∙ sym inv.potentials_in.kept_in); elsewhere = λ few. cc };
-      held = rw c.bring_back.ensures.whole (held_noted t.graph.rows t.flow.whole t.scratch.held c.note_all.new.self.held c.note_all.ensures.held inv.held);
+      step = λ few. absurd (true≢false (sym (ap (λ (v : ScratchView). v.tree.are_apart) c.note_potentials.ensures) ∙ few));
+      held = rw (c.bring_back.ensures.whole, c.note_potentials.ensures) (held_noted t.graph.rows t.flow.whole t.scratch.tree c.note_all.new.self.tree c.note_all.ensures.held inv.held);
       log_fits = omega (arith, inv.log_fits);
       before_is = tt;
     }

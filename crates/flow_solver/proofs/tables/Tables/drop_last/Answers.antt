@@ -7,6 +7,7 @@ use Rattle.network.specs.Instance.{Instance}
 use Rattle.flow_solver.specs.TablesView.{TablesView}
 use Rattle.residual_graph.specs.Residual.{row_at, number_at}
 use Rattle.augmentation.specs.ScratchView.{ScratchView}
+use Rattle.augmentation.proofs.NearLemmas.{step_kept}
 use Rattle.flow_solver.proofs.CarryLemmas.{arcs_in, balance_dropped, ends_in}
 use Rattle.flow_solver.proofs.HeldTables.{held_dropped}
 use Rattle.tracked.proofs.TrackedLemmas.{IsWritten-same}
@@ -57,9 +58,9 @@ invariant_of-self c =
           c.pop-flow.ensures.room (IsWritten-same t.potentials.table) inv.idle (IsWritten-same t.cut) (ap (λ (v : ScratchView). length v.potentials) c.note_all.ensures.same ∙ inv.scratch_in);
       balance_is = balance;
       told = λ none. cc;
-      held = held_dropped t.graph.rows t.flow.whole t.scratch.held c.note_all.new.self.held c.note_all.ensures.held inv.held c.pop_arc-row.new.self.rows c.pop-flow.new.self.whole last c.pop_arc-row.result c.pop_arc-row.ensures.rows
+      held = held_dropped t.graph.rows t.flow.whole t.scratch.tree c.note_all.new.self.tree c.note_all.ensures.held inv.held c.pop_arc-row.new.self.rows c.pop-flow.new.self.whole last c.pop_arc-row.result c.pop_arc-row.ensures.rows
           (c.pop-flow.ensures.whole ∙ ap (λ (n : ℕ). take n t.flow.whole) (omega (arith, entries_less, inv.flow_in, one_less))) (omega (arith, many, one_less)) c.note_all.ensures.noted;
-      step = rw c.note_all.ensures.held.labels inv.step;
+      step = step_kept t.scratch.tree c.note_all.new.self.tree c.note_all.ensures.held t.potentials.table.entries inv.step;
       log_fits = inv.log_fits;
       before_is = tt;
     }

@@ -69,10 +69,7 @@ invariant_of-result c =
       };
       balance_is = c.in_ok-flow.ensures.balance;
       told = λ stood. absurd (false≢true (sym nodes.told ∙ stood));
-      step = record {
-        sized = nodes.apart ∙ sym (rw nodes.potentials (length-replicate (c.nodes.result + 1) (pos 0)));
-        elsewhere = λ few. absurd (true≢false (sym nodes.all_apart ∙ few));
-      };
+      step = λ few. absurd (true≢false (sym nodes.apart ∙ few));
       held = λ found. absurd (true≢false (sym nodes.lost ∙ found));
       log_fits = omega (arith, c.in_ok-log.ensures.capacity);
       before_is = tt;

@@ -6,6 +6,7 @@ use Rattle.dimacs_text.specs.declared.problem.ArcRow.{ArcRow}
 use Rattle.network.specs.Instance.{Demand, Instance, reduced_arcs}
 use Rattle.flow_solver.specs.TablesView.{TablesView}
 use Rattle.augmentation.specs.ScratchView.{ScratchView}
+use Rattle.augmentation.proofs.NearLemmas.{step_kept}
 use Rattle.flow_solver.proofs.CarryLemmas.{balance_put}
 use Rattle.flow_solver.proofs.HeldTables.{held_put}
 use Rattle.tracked.proofs.TrackedLemmas.{IsWritten-same}
@@ -36,8 +37,8 @@ invariant_of-self c =
           c.push.ensures.room (IsWritten-same t.potentials.table) inv.idle (IsWritten-same t.cut) (ap (λ (v : ScratchView). length v.potentials) c.note_all.ensures.same ∙ inv.scratch_in);
       balance_is = balance;
       told = λ none. cc;
-      held = held_put t.graph.rows t.flow.whole t.scratch.held c.note_all.new.self.held c.note_all.ensures.held inv.held c.push_arc.new.self.rows c.push.new.self.whole (length c.rows-added.result.now) c.args.row c.args.flow c.push_arc.ensures.rows (rw flow at c.push.ensures.whole) inv.flow_whole added c.note_all.ensures.noted;
-      step = rw c.note_all.ensures.held.labels inv.step;
+      held = held_put t.graph.rows t.flow.whole t.scratch.tree c.note_all.new.self.tree c.note_all.ensures.held inv.held c.push_arc.new.self.rows c.push.new.self.whole (length c.rows-added.result.now) c.args.row c.args.flow c.push_arc.ensures.rows (rw flow at c.push.ensures.whole) inv.flow_whole added c.note_all.ensures.noted;
+      step = step_kept t.scratch.tree c.note_all.new.self.tree c.note_all.ensures.held t.potentials.table.entries inv.step;
       log_fits = inv.log_fits;
       before_is = tt;
     }

@@ -5,6 +5,7 @@ use Rattle.dimacs_text.specs.declared.problem.ArcRow.{ArcRow}
 use Rattle.flow_solver.specs.Balance.{IsWrappedCost}
 use Rattle.augmentation.specs.Nodes.{IsIdleEntry}
 use Rattle.augmentation.specs.ScratchView.{ScratchView}
+use Rattle.augmentation.proofs.NearLemmas.{step_kept}
 use Rattle.flow_solver.proofs.CarryLemmas.{balance_kept}
 use Rattle.flow_solver.proofs.HeldTables.{held_kept}
 use Rattle.flow_solver.proofs.tables.Tables.snapshot.Goals as goal
@@ -30,8 +31,8 @@ invariant_of-self c =
       };
       balance_is = balance_kept t.graph.net t.graph.rows t.flow c.snapshot.new.self t.balance _ c.snapshot.ensures.entries c.snapshot.ensures.whole refl cost inv.balance_is;
       told = λ stood. rw (c.snapshot-2.ensures.entries, c.snapshot.ensures.entries) (inv.told stood);
-      held = rw c.snapshot.ensures.whole (held_kept t.graph.rows t.flow.whole t.scratch.held c.note_all.new.self.held c.note_all.ensures.held inv.held c.places-changed.result.now t.flow.entries inv.flow_whole c.places-changed.ensures.all_named c.note_all.ensures.noted);
-      step = rw (c.note_all.ensures.held.labels, c.snapshot-2.ensures.entries) inv.step;
+      held = rw c.snapshot.ensures.whole (held_kept t.graph.rows t.flow.whole t.scratch.tree c.note_all.new.self.tree c.note_all.ensures.held inv.held c.places-changed.result.now t.flow.entries inv.flow_whole c.places-changed.ensures.all_named c.note_all.ensures.noted);
+      step = rw c.snapshot-2.ensures.entries (step_kept t.scratch.tree c.note_all.new.self.tree c.note_all.ensures.held t.potentials.table.entries inv.step);
       log_fits = omega (arith, inv.log_fits);
       before_is = tt;
     }

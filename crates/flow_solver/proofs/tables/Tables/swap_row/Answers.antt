@@ -6,6 +6,7 @@ use Rattle.network.specs.Instance.{Instance}
 use Rattle.flow_solver.specs.TablesView.{TablesView}
 use Rattle.residual_graph.specs.Residual.{row_at, number_at}
 use Rattle.augmentation.specs.ScratchView.{ScratchView}
+use Rattle.augmentation.proofs.NearLemmas.{step_kept}
 use Rattle.flow_solver.proofs.CarryLemmas.{balance_swapped, place_is, rows_swapped}
 use Rattle.flow_solver.proofs.HeldTables.{held_swapped}
 use Rattle.residual_graph.proofs.WalkLemmas.{few_rows}
@@ -41,8 +42,8 @@ invariant_of-self c =
           (IsWritten-same t.flow) (IsWritten-same t.potentials.table) inv.idle (IsWritten-same t.cut) (ap (λ (v : ScratchView). length v.potentials) c.note_all.ensures.same ∙ inv.scratch_in);
       balance_is = balance;
       told = λ none. cc;
-      held = held_swapped t.graph.rows t.flow.whole t.scratch.held c.note_all.new.self.held c.note_all.ensures.held inv.held c.set_row.new.self.rows place row rows_are c.note_all.ensures.noted;
-      step = rw c.note_all.ensures.held.labels inv.step;
+      held = held_swapped t.graph.rows t.flow.whole t.scratch.tree c.note_all.new.self.tree c.note_all.ensures.held inv.held c.set_row.new.self.rows place row rows_are c.note_all.ensures.noted;
+      step = step_kept t.scratch.tree c.note_all.new.self.tree c.note_all.ensures.held t.potentials.table.entries inv.step;
       log_fits = inv.log_fits;
       before_is = tt;
     }

@@ -1,8 +1,9 @@
 use Rattle.std.proofs.Common.{◌≡◌, length}
+use Rattle.shortest_paths.specs.Tree.{IsRelabelled}
 use Rattle.shortest_paths.proofs.tree.Tree.loosen_beyond.Given as goal
 
 abbrev pub invariant-loop : goal.invariant-loop
 invariant-loop l = record {
   sized : length l.self.labels ≡ length l.residual.potentials.now;
-  held : l.self.held ≡ l.initial.self.held;
+  marked : IsRelabelled l.initial.self l.self;
 }
