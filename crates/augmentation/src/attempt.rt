@@ -82,7 +82,7 @@ impl Attempt {
         requires { length flow.now ≡ length graph.now.rows }
         ensures { self.new ≡ self.old }
     {
-        if self.trial.order.has_circles() {
+        if self.trial.order.has_circles {
             self.proposals
                 .follow(graph.rows(), flow, &self.wanted.changes);
         } else {

@@ -2,7 +2,7 @@
 
 ghost use Rattle.std.specs.Prelude.{◌↔◌, ◌<◌, IsTrue, length};
 ghost use Rattle.residual_graph.specs.Residual.{IsPseudoflow, IsRow, IsWithinRow};
-ghost use Rattle.augmentation.specs.Certificate.{AreCertifying, AreInRange, IsNoneBelowAt, IsWithinRows, KeepsArc, KeepsRow};
+ghost use Rattle.augmentation.specs.Certificate.{AreCertifying, AreInRange, IsNoneBelowAt, KeepsArc, KeepsRow};
 
 use dimacs_text::ArcRow;
 use residual_graph::{Graph, Way};
@@ -70,22 +70,6 @@ pub fn certifies(graph: &Graph, flow: &[i64], potentials: &[i64]) -> bool
     }
     for k in 0..graph.rows().len() {
         if !keeps_arc(graph, flow, potentials, k) {
-            return false;
-        }
-    }
-    true
-}
-
-/// Whether a flow has one entry an arc, each within the bounds.
-pub fn is_within(graph: &Graph, flow: &[i64]) -> bool
-    ensures { IsTrue result ↔ IsWithinRows graph.now.rows flow.now }
-{
-    let rows = graph.rows();
-    if rows.len() != flow.len() {
-        return false;
-    }
-    for k in 0..rows.len() {
-        if flow[k] < rows[k].low || flow[k] > rows[k].cap {
             return false;
         }
     }

@@ -26,7 +26,7 @@ mod trial;
 
 pub use adoption::{adopt, push_all, push_proposed};
 pub use attempt::Attempt;
-pub use certificate::{certifies, is_within};
+pub use certificate::certifies;
 pub use cut::{Cut, mark_cut};
 pub use excess::Excess;
 pub use near::prepare;

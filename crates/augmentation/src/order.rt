@@ -37,8 +37,8 @@ pub struct Order {
     ranked: u32,
     /// How many steps may still be taken.
     fuel: u64,
-    /// Whether a circle was taken off.
-    has_circles: bool,
+    /// Whether some of the changes that were laid out went round in circles, which were taken off.
+    pub(crate) has_circles: bool,
 }
 
 impl Model for Order {
@@ -92,15 +92,6 @@ fn lessen(flow: &[i64], changes: &mut [FlowChange], place: u32, amount: i64) {
     };
 }
 
-/// Brings what is wanted of each arc within its bounds.
-fn keep_bounds(graph: &Graph, changes: &mut [FlowChange]) {
-    for change in changes.iter_mut() {
-        if let Some(row) = graph.rows().get(change.arc as usize) {
-            change.flow = change.flow.max(row.low).min(row.cap);
-        }
-    }
-}
-
 impl Order {
     /// Tables for so many entries.
     ///
@@ -129,11 +120,6 @@ impl Order {
         &self.ranks
     }
 
-    /// Whether some of the changes that were laid out went round in circles, which were taken off.
-    pub(crate) fn has_circles(&self) -> bool {
-        self.has_circles
-    }
-
     /// Lays the changes out: brings what is wanted within the bounds, takes off what goes round in circles, and ranks the
     /// nodes. Where that takes too many steps it is given up.
     pub(crate) fn lay_out(
@@ -144,7 +130,6 @@ impl Order {
     ) -> bool
         ensures { self.new ≡ self.old }
     {
-        keep_bounds(graph, changes);
         self.begin(graph, flow, changes);
         self.list(graph, flow, changes);
         for j in 0..changes.len() {
@@ -157,15 +142,19 @@ impl Order {
         true
     }
 
-    /// Forgets what is known of the ends of the changes, and allows as many steps as they may take.
-    fn begin(&mut self, graph: &Graph, flow: &[i64], changes: &[FlowChange])
+    /// Brings what is wanted within the bounds, forgets what is known of the ends of the changes, and allows as many steps as
+    /// they may take.
+    fn begin(&mut self, graph: &Graph, flow: &[i64], changes: &mut [FlowChange])
         ensures { self.new ≡ self.old }
     {
         let places = (self.ranks.len() as u64).saturating_add(changes.len() as u64);
         self.fuel = places.saturating_mul(STEPS);
         self.ranked = 0;
         self.has_circles = false;
-        for change in changes {
+        for change in changes.iter_mut() {
+            if let Some(row) = graph.rows().get(change.arc as usize) {
+                change.flow = change.flow.max(row.low).min(row.cap);
+            }
             if let Some((from, to)) = ends_of(graph, flow, change) {
                 self.forget(from);
                 self.forget(to);
@@ -230,7 +219,12 @@ impl Order {
                 Visit::OnWalk => self.take_off_circle(flow, changes, from),
                 _ => self.enter(from),
             },
-            None => self.rank(node),
+            None => {
+                self.set_number(node, self.ranked);
+                self.ranked = self.ranked.saturating_add(1);
+                self.set_state(node, Visit::Ranked);
+                let _ = self.walk.pop();
+            }
         }
     }
 
@@ -265,16 +259,6 @@ impl Order {
             self.walk.push_reserved(node);
             self.set_state(node, Visit::OnWalk);
         }
-    }
-
-    /// Gives the walk's last node the next rank, and goes off it.
-    fn rank(&mut self, node: u32)
-        ensures { self.new ≡ self.old }
-    {
-        self.set_number(node, self.ranked);
-        self.ranked = self.ranked.saturating_add(1);
-        self.set_state(node, Visit::Ranked);
-        let _ = self.walk.pop();
     }
 
     /// Takes what goes round the circle that the walk's nodes from this one on form off the changes, and goes back to the

@@ -157,11 +157,6 @@ enum Advance {
     Closed,
 }
 
-/// The other end of an arc.
-fn across(end: u32) -> u32 {
-    if end % 2 == 0 { end + 1 } else { end - 1 }
-}
-
 /// Walks back from a node to one in excess, by hops with room. Says whether it came there.
 pub(crate) fn find_way(
     on: Ground<'_>,
@@ -222,6 +217,7 @@ fn step_back(
         trails.close(node);
         return Advance::Closed;
     };
-    hang_on(on.graph, on.potentials, predecessors, node, across(end));
+    // The other end of an arc has the number beside it.
+    hang_on(on.graph, on.potentials, predecessors, node, end ^ 1);
     Advance::To(node)
 }

@@ -1,11 +1,11 @@
 //! Where pushes begin, and whether they may begin there.
 
-ghost use Rattle.std.specs.Prelude.{◌<◌, ℕ, IsTrue, length};
-ghost use Rattle.residual_graph.specs.Residual.{IsPseudoflow, IsRow, row_at};
+ghost use Rattle.std.specs.Prelude.{◌≡◌, ◌<◌, ℕ, IsTrue, length};
+ghost use Rattle.residual_graph.specs.Residual.{IsPseudoflow, IsRow, IsWithinRow, number_at, row_at};
 ghost use Rattle.augmentation.specs.Push.{AreSmall};
 ghost use Rattle.augmentation.specs.Pseudoflow.{IsReady};
 
-use augmentation::{certifies, is_within};
+use augmentation::certifies;
 use dimacs_text::ArcRow;
 use residual_graph::Graph;
 use std::alloc::{AllocError, Global};
@@ -58,14 +58,29 @@ fn are_rows(rows: &[ArcRow], entries: usize) -> bool
     true
 }
 
+/// Whether a flow is within the bounds of each of as many arcs.
+fn is_within(rows: &[ArcRow], flow: &[i64]) -> bool
+    requires { length flow.now ≡ length rows.now }
+    ensures { IsTrue result → (k : ℕ) → k < length rows.now
+        → IsWithinRow (row_at rows.now k) (number_at flow.now k) }
+{
+    for k in 0..rows.len() {
+        if flow[k] < rows[k].low || flow[k] > rows[k].cap {
+            return false;
+        }
+    }
+    true
+}
+
 /// Whether a flow is within the bounds of each arc, in a graph within the limits.
 fn is_pseudoflow(graph: &Graph, flow: &[i64], entries: usize) -> bool
     ensures { IsTrue result → IsPseudoflow entries graph.now.rows flow.now }
 {
-    if entries > MOST_entries || graph.rows().len() > MOST_ROWS {
+    let rows = graph.rows();
+    if entries > MOST_entries || rows.len() > MOST_ROWS || flow.len() != rows.len() {
         return false;
     }
-    are_rows(graph.rows(), entries) && is_within(graph, flow)
+    are_rows(rows, entries) && is_within(rows, flow)
 }
 
 /// Whether pushes may begin with a flow, its excess and potentials.

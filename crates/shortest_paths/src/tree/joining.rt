@@ -14,15 +14,8 @@ impl Tree {
         if self.forest.is_grown() {
             self.rejoin_beside(residual);
             self.rejoin_along(residual, written);
-        } else {
-            self.rejoin_all(residual);
+            return;
         }
-    }
-
-    /// Has all nodes hang so.
-    fn rejoin_all(&mut self, residual: Residual<'_>)
-        ensures { self.new ≡ self.old }
-    {
         self.forest.grow();
         for v in 0..residual.potentials.len() {
             self.rejoin(residual, v as u32);
@@ -35,7 +28,7 @@ impl Tree {
     {
         for i in 0..self.beside.places().len() {
             let v = entry(self.beside.places(), i);
-            let k = self.arc_above(v);
+            let k = self.end_above(v) as usize / 2;
             if k >= self.noted.size() || self.noted.is_noted(k) {
                 self.rejoin(residual, v);
             }
@@ -60,7 +53,7 @@ impl Tree {
     fn rejoin_by(&mut self, residual: Residual<'_>, v: u32, k: usize)
         ensures { self.new ≡ self.old }
     {
-        if self.arc_above(v) == k {
+        if self.end_above(v) as usize / 2 == k {
             self.rejoin(residual, v);
         }
     }
@@ -92,10 +85,5 @@ impl Tree {
         } else {
             u32::MAX
         }
-    }
-
-    /// The arc along which that residual arc leads, or one that is not there.
-    fn arc_above(&self, v: u32) -> usize {
-        (self.end_above(v) / 2) as usize
     }
 }

@@ -99,7 +99,9 @@ impl Tree {
             let before = self.reached();
             for i in 0..self.loose.len() {
                 let end = entry(&self.loose, i);
-                self.reach_again(residual, end);
+                if let Some(step) = Step::at(residual, end) {
+                    self.reach_beyond(residual, step.start, step.far, end);
+                }
             }
             if self.reached() == before {
                 return;
@@ -127,20 +129,6 @@ impl Tree {
             self.reach_beyond(residual, step.start, step.far, end);
         } else if self.loose.len() < self.loose.capacity() {
             self.loose.push_reserved(end);
-        }
-    }
-
-    /// Reaches the node to which a residual arc leads, of which it is known that it does at its label, from one that was
-    /// reached.
-    fn reach_again(&mut self, residual: Residual<'_>, end: u32)
-        requires sized { IsTreeOf residual self.old }
-        ensures sized { IsTreeOf residual.entry self.new }
-        ensures marked { IsRelabelled self.old self.new }
-    {
-        if let Some(step) = Step::at(residual, end) {
-            if self.is_reached(step.start) {
-                self.reach_beyond(residual, step.start, step.far, end);
-            }
         }
     }
 
