@@ -1,7 +1,8 @@
 //! The tree of labels, kept from flow to flow: where edits and pushes broke it, it is mended.
 //!
-//! Proved is that each call returns, that no index, sum or cast leaves its range, and that each label and predecessor that is written
-//! is marked. Nothing else is proved of labels that are looked for: who takes them tests them, and has them accepted.
+//! Proved is that each call returns, that no index, sum or cast leaves its range, and that each node is marked whose label or
+//! predecessor is written. Nothing else is proved of labels that are looked for: who takes them tests them, and has them
+//! accepted.
 
 ghost use Rattle.std.specs.Prelude.{◌≡◌, ◌<◌, ◌≤◌, IfOk, IfSome, length, true};
 ghost use Rattle.residual_graph.specs.Limits.{row_limit};
@@ -252,8 +253,9 @@ impl Tree {
         self.are_apart = true;
     }
 
-    /// Holds the labels, which were tested and are the potentials; the flow of these arcs may be brought back. Where many arcs were written nothing is
-    /// held, since the next test would have to look at all of them: a test of all labels in turn is quicker.
+    /// Holds the labels, which were tested and are the potentials; the flow of these arcs may be brought back. Where many arcs
+    /// were written nothing is held, since the next test would have to look at all of them: a test of all labels in turn is
+    /// quicker.
     pub fn accept(&mut self, graph: &Graph, written: &[u32])
         ensures labels { self.new.labels ≡ self.old.labels }
         ensures predecessors { self.new.predecessors ≡ self.old.predecessors }
