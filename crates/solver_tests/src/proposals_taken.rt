@@ -14,6 +14,9 @@ use std::process::Abort;
 use std::test::Fail;
 use tracked::Tracked;
 
+/// The most arcs of a network here.
+const MOST_ARCS: usize = 8;
+
 /// Two ways from node 1 to node 3 cost the same: by the first two arcs, and by the third. The last two go round.
 const TIES: &[u8] =
     b"p min 4 5\nn 1 2\nn 3 -2\na 1 2 0 2 1\na 2 3 0 2 1\na 1 3 0 2 2\na 3 4 0 5 1\na 4 3 0 5 1\n";
@@ -308,9 +311,10 @@ fn excess_of(rt: &impl Abort, alloc: Global, table: &[i64]) -> Result<Excess, Al
     Excess::new(alloc, copy_of(alloc, table)?)
 }
 
-/// Arcs with the flow that is wanted of each, as a proposal has them.
+/// Arcs with the flow that is wanted of each, as a proposal has them, with room for all arcs: the solver's own proposals are
+/// written in the same list.
 fn changes_of(alloc: Global, pairs: &[(u32, i64)]) -> Result<Vec<FlowChange>, AllocError> {
-    let mut changes = Vec::with_capacity(alloc, pairs.len())?;
+    let mut changes = Vec::with_capacity(alloc, MOST_ARCS)?;
     for (arc, flow) in pairs {
         changes.push(FlowChange {
             arc: *arc,
