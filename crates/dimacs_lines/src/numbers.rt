@@ -4,7 +4,7 @@ ghost use Rattle.std.specs.Prelude.{◌≡◌, ◌<◌, ◌≤◌, ◌-◌, leng
 ghost use Rattle.dimacs_lines.specs.declared.numbers.TheConstants.{DIGIT_LIMIT, VALUE_DIGIT_LIMIT};
 ghost use Rattle.dimacs_lines.specs.Fields.{natural, natural_within, integer, claimed_value, is_negative, without_sign};
 ghost use Rattle.dimacs_lines.specs.Digits.{FrontDigits};
-ghost use Rattle.dimacs_lines.specs.Checks.{natural_in, integer_in};
+ghost use Rattle.dimacs_lines.specs.Checks.{number_in, natural_in, integer_in};
 
 use crate::fault::LineFault;
 use crate::words::Word;
@@ -95,6 +95,15 @@ fn split_sign(word: &[u8]) -> (bool, &[u8])
         [b'-', digits @ ..] => (true, digits),
         _ => (false, word),
     }
+}
+
+/// The number of a field without sign, in no range.
+#[inline(always)]
+pub fn number_in(word: Word) -> Result<u64, LineFault>
+    ensures value { result ≡ number_in word.entry }
+    ensures below { IfOk result (λ value. value < 10 ^ DIGIT_LIMIT) }
+{
+    word.natural().ok_or(LineFault::NotANumber)
 }
 
 /// The number of a field without sign, from `low` to `high`: first its shape is tested, then its range.

@@ -6,7 +6,7 @@ ghost use Rattle.dimacs_text.specs.Answer.{fault_of, Takes, TakesAs, read_value,
 use crate::answer::{Answer, FlowLine};
 use crate::answer_fault::AnswerFault;
 use crate::answer_line::AnswerLine;
-use dimacs_lines::{LineError, LineFault, Sequence, Words, claimed_value, natural_in};
+use dimacs_lines::{LineError, LineFault, Sequence, Words, claimed_value, natural_in, number_in};
 use std::alloc::Global;
 use std::marker::Model;
 
@@ -145,7 +145,7 @@ impl AnswerDraft {
         let nodes = u64::from(self.nodes);
         let tail = natural_in(tail, 1, nodes)? as u32;
         let head = natural_in(head, 1, nodes)? as u32;
-        let flow = flow.natural().ok_or(LineFault::NotANumber)? as i64;
+        let flow = number_in(flow)? as i64;
         Ok(FlowLine { tail, head, flow })
     }
 
@@ -177,9 +177,7 @@ impl AnswerDraft {
         if self.value.is_some() || self.shortage.is_some() {
             return Err(AnswerFault::OutOfOrder);
         }
-        let shortage = fields.one()?;
-        let shortage = shortage.natural().ok_or(LineFault::NotANumber)? as i64;
-        Ok(shortage)
+        Ok(number_in(fields.one()?)? as i64)
     }
 
     /// What a `k` line says, after its designator.

@@ -2,6 +2,8 @@
 
 ghost use Rattle.std.specs.Prelude.{◌≡◌};
 
+use crate::designator::is_word;
+
 /// What the first word makes of a line of an answer text.
 #[derive(Clone, Copy)]
 pub enum AnswerLine {
@@ -23,11 +25,11 @@ impl AnswerLine {
     {
         match word {
             [b'c', ..] => AnswerLine::Comment,
-            [b's'] => AnswerLine::Value,
-            [b'f'] => AnswerLine::Flow,
-            [b'v'] => AnswerLine::Potential,
-            [b'i'] => AnswerLine::Shortage,
-            [b'k'] => AnswerLine::CutNode,
+            _ if is_word(word, b"s") => AnswerLine::Value,
+            _ if is_word(word, b"f") => AnswerLine::Flow,
+            _ if is_word(word, b"v") => AnswerLine::Potential,
+            _ if is_word(word, b"i") => AnswerLine::Shortage,
+            _ if is_word(word, b"k") => AnswerLine::CutNode,
             _ => AnswerLine::Unknown,
         }
     }

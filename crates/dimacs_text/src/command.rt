@@ -8,8 +8,9 @@ ghost use Rattle.dimacs_lines.specs.Lines.{Line};
 ghost use Rattle.dimacs_text.specs.Command.{asked, command, opens_group, ends_group, verb_of, is_for, read_words, read_by, read_bare, read_name, read_cap, read_low, read_cost, read_supply, read_add, read_min_arc, read_max_arc, read_asn_arc, read_close, as_edit};
 
 use crate::command_fault::CommandFault;
+use crate::designator::is_word;
 use crate::problem::{CAP_LIMIT, COST_LIMIT, Kind, SUPPLY_LIMIT};
-use dimacs_lines::{LINE_LIMIT, LineFault, Name, Words, integer_in, natural_in};
+use dimacs_lines::{LINE_LIMIT, LineFault, Name, Words, integer_in, natural_in, number_in};
 
 /// A change of an instance. Arcs and nodes are named by their numbers, counted from 1; whether they exist is not tested
 /// yet.
@@ -129,20 +130,20 @@ impl Verb {
         ensures { result ≡ verb_of word.now }
     {
         match word {
-            [b'c', b'a', b'p'] => Some(Verb::Cap),
-            [b'l', b'o', b'w'] => Some(Verb::Low),
-            [b'c', b'o', b's', b't'] => Some(Verb::Cost),
-            [b's', b'u', b'p', b'p', b'l', b'y'] => Some(Verb::Supply),
-            [b'a', b'd', b'd'] => Some(Verb::Add),
-            [b'c', b'l', b'o', b's', b'e'] => Some(Verb::Close),
-            [b'u', b'n', b'd', b'o'] => Some(Verb::Undo),
-            [b'r', b'e', b'd', b'o'] => Some(Verb::Redo),
-            [b's', b'h', b'o', b'w'] => Some(Verb::Show),
-            [b'p', b'r', b'o', b'o', b'f'] => Some(Verb::Proof),
-            [b'g', b'r', b'o', b'u', b'p'] => Some(Verb::Group),
-            [b'e', b'n', b'd'] => Some(Verb::End),
-            [b'm', b'a', b'r', b'k'] => Some(Verb::Mark),
-            [b'b', b'a', b'c', b'k'] => Some(Verb::Back),
+            _ if is_word(word, b"cap") => Some(Verb::Cap),
+            _ if is_word(word, b"low") => Some(Verb::Low),
+            _ if is_word(word, b"cost") => Some(Verb::Cost),
+            _ if is_word(word, b"supply") => Some(Verb::Supply),
+            _ if is_word(word, b"add") => Some(Verb::Add),
+            _ if is_word(word, b"close") => Some(Verb::Close),
+            _ if is_word(word, b"undo") => Some(Verb::Undo),
+            _ if is_word(word, b"redo") => Some(Verb::Redo),
+            _ if is_word(word, b"show") => Some(Verb::Show),
+            _ if is_word(word, b"proof") => Some(Verb::Proof),
+            _ if is_word(word, b"group") => Some(Verb::Group),
+            _ if is_word(word, b"end") => Some(Verb::End),
+            _ if is_word(word, b"mark") => Some(Verb::Mark),
+            _ if is_word(word, b"back") => Some(Verb::Back),
             _ => None,
         }
     }
@@ -259,9 +260,11 @@ fn read_cap(fields: Words) -> Result<Edit, LineFault>
     ensures { result ≡ read_cap fields.entry }
 {
     let (arc, cap) = fields.two()?;
-    let arc = arc.natural().ok_or(LineFault::NotANumber)?;
-    let cap = natural_in(cap, 0, CAP_LIMIT)? as i64;
-    Ok(Edit::Cap { arc, cap })
+    let (arc, cap) = (number_in(arc), natural_in(cap, 0, CAP_LIMIT));
+    Ok(Edit::Cap {
+        arc: arc?,
+        cap: cap? as i64,
+    })
 }
 
 /// The fields of `low K V`.
@@ -270,9 +273,11 @@ fn read_low(fields: Words) -> Result<Edit, LineFault>
     ensures { result ≡ read_low fields.entry }
 {
     let (arc, low) = fields.two()?;
-    let arc = arc.natural().ok_or(LineFault::NotANumber)?;
-    let low = natural_in(low, 0, CAP_LIMIT)? as i64;
-    Ok(Edit::Low { arc, low })
+    let (arc, low) = (number_in(arc), natural_in(low, 0, CAP_LIMIT));
+    Ok(Edit::Low {
+        arc: arc?,
+        low: low? as i64,
+    })
 }
 
 /// The fields of `cost K V`.
@@ -281,9 +286,11 @@ fn read_cost(fields: Words) -> Result<Edit, LineFault>
     ensures { result ≡ read_cost fields.entry }
 {
     let (arc, cost) = fields.two()?;
-    let arc = arc.natural().ok_or(LineFault::NotANumber)?;
-    let cost = integer_in(cost, COST_LIMIT)?;
-    Ok(Edit::Cost { arc, cost })
+    let (arc, cost) = (number_in(arc), integer_in(cost, COST_LIMIT));
+    Ok(Edit::Cost {
+        arc: arc?,
+        cost: cost?,
+    })
 }
 
 /// The fields of `supply ID V`.
@@ -292,9 +299,11 @@ fn read_supply(fields: Words) -> Result<Edit, LineFault>
     ensures { result ≡ read_supply fields.entry }
 {
     let (node, value) = fields.two()?;
-    let node = node.natural().ok_or(LineFault::NotANumber)?;
-    let value = integer_in(value, SUPPLY_LIMIT)?;
-    Ok(Edit::Supply { node, value })
+    let (node, value) = (number_in(node), integer_in(value, SUPPLY_LIMIT));
+    Ok(Edit::Supply {
+        node: node?,
+        value: value?,
+    })
 }
 
 /// The fields of `add`, which are those of the kind's arc line.
@@ -314,17 +323,15 @@ fn read_min_arc(fields: Words) -> Result<Edit, LineFault>
     ensures { result ≡ read_min_arc fields.entry }
 {
     let (tail, head, low, cap, cost) = fields.five()?;
-    let tail = tail.natural().ok_or(LineFault::NotANumber)?;
-    let head = head.natural().ok_or(LineFault::NotANumber)?;
-    let low = natural_in(low, 0, CAP_LIMIT)? as i64;
-    let cap = natural_in(cap, 0, CAP_LIMIT)? as i64;
-    let cost = integer_in(cost, COST_LIMIT)?;
+    let (tail, head) = (number_in(tail), number_in(head));
+    let (low, cap) = (natural_in(low, 0, CAP_LIMIT), natural_in(cap, 0, CAP_LIMIT));
+    let cost = integer_in(cost, COST_LIMIT);
     Ok(Edit::Add {
-        tail,
-        head,
-        low,
-        cap,
-        cost,
+        tail: tail?,
+        head: head?,
+        low: low? as i64,
+        cap: cap? as i64,
+        cost: cost?,
     })
 }
 
@@ -334,14 +341,13 @@ fn read_max_arc(fields: Words) -> Result<Edit, LineFault>
     ensures { result ≡ read_max_arc fields.entry }
 {
     let (tail, head, cap) = fields.three()?;
-    let tail = tail.natural().ok_or(LineFault::NotANumber)?;
-    let head = head.natural().ok_or(LineFault::NotANumber)?;
-    let cap = natural_in(cap, 0, CAP_LIMIT)? as i64;
+    let (tail, head) = (number_in(tail), number_in(head));
+    let cap = natural_in(cap, 0, CAP_LIMIT);
     Ok(Edit::Add {
-        tail,
-        head,
+        tail: tail?,
+        head: head?,
         low: 0,
-        cap,
+        cap: cap? as i64,
         cost: 0,
     })
 }
@@ -352,15 +358,14 @@ fn read_asn_arc(fields: Words) -> Result<Edit, LineFault>
     ensures { result ≡ read_asn_arc fields.entry }
 {
     let (tail, head, cost) = fields.three()?;
-    let tail = tail.natural().ok_or(LineFault::NotANumber)?;
-    let head = head.natural().ok_or(LineFault::NotANumber)?;
-    let cost = integer_in(cost, COST_LIMIT)?;
+    let (tail, head) = (number_in(tail), number_in(head));
+    let cost = integer_in(cost, COST_LIMIT);
     Ok(Edit::Add {
-        tail,
-        head,
+        tail: tail?,
+        head: head?,
         low: 0,
         cap: 1,
-        cost,
+        cost: cost?,
     })
 }
 
@@ -369,7 +374,6 @@ fn read_asn_arc(fields: Words) -> Result<Edit, LineFault>
 fn read_close(fields: Words) -> Result<Edit, LineFault>
     ensures { result ≡ read_close fields.entry }
 {
-    let arc = fields.one()?;
-    let arc = arc.natural().ok_or(LineFault::NotANumber)?;
+    let arc = number_in(fields.one()?)?;
     Ok(Edit::Close { arc })
 }

@@ -3,6 +3,7 @@
 ghost use Rattle.std.specs.Prelude.{◌≡◌};
 ghost use Rattle.dimacs_text.specs.Problem.{is_source, is_sink, has_source, has_sink, has_terminals, is_source_word, is_sink_word, terminal_by};
 
+use crate::designator::is_word;
 use crate::problem::{Kind, NodeMark};
 use crate::problem_fault::ProblemFault;
 
@@ -38,20 +39,14 @@ pub fn terminal(source: bool, id: u32, marks: &[NodeMark]) -> Result<NodeMark, P
 pub fn is_source_word(word: &[u8]) -> bool
     ensures { result ≡ is_source_word word.now }
 {
-    match word {
-        [byte] => *byte == b's',
-        _ => false,
-    }
+    is_word(word, b"s")
 }
 
 /// Whether the word of a node line names the sink.
 pub fn is_sink_word(word: &[u8]) -> bool
     ensures { result ≡ is_sink_word word.now }
 {
-    match word {
-        [byte] => *byte == b't',
-        _ => false,
-    }
+    is_word(word, b"t")
 }
 
 /// Whether a source is named. Beside a source and a sink there are no marks, so this looks at two at most.
