@@ -1,10 +1,15 @@
-use Rattle.std.proofs.Common.{◌≡◌, ◌∙◌, ◌+◌, ◌*◌, suc, length, take, refl, sym, ap, arith}
-use Rattle.std.proofs.lemmas.List.{length-map, take_at, take_more}
-use Rattle.network.specs.Representation.{listed_end}
+use Rattle.std.proofs.Common.{◌≡◌, ◌∙◌, ℕ, ◌+◌, ◌*◌, ◌<◌, suc, List, length, take, refl, sym, ap, arith}
+use Rattle.std.proofs.lemmas.List.{length-map, length-take-le, take_at, take_more}
+use Rattle.dimacs_text.specs.declared.problem.ArcRow.{ArcRow}
+use Rattle.network.specs.Representation.{ends_in, listed_end}
 use Rattle.network.proofs.EndLemmas.{no_arc}
 use Rattle.network.proofs.EndLinks.{lists_push}
 use Rattle.network.proofs.Rows.{no_ends}
 use Rattle.network.proofs.edit.list_ends.Goals as goal
+
+-- how many ends are listed before arc i
+listed : (next : List ℕ) (arcs : List ArcRow) (i : ℕ) → i < length arcs → length (ends_in next) ≡ 2 * length (take i arcs) → length next ≡ 2 * i
+listed next arcs i inside e = omega (arith, length-map next listed_end, length-take-le i arcs (omega arith), e)
 
 pub loop-arc-init : goal.loop-arc-init
 loop-arc-init c = record {
@@ -30,3 +35,28 @@ loop-arc-preserved c =
       lists = lists_push _ _ _ _ _ _ _ _ _ lists row.tail row.head one two;
       room = omega (arith, c.loop-arc.invariant.room, c.link_end.ensures.capacity, c.link_end-in-loop-arc.ensures.capacity);
     })
+
+pub overflow_cast-end : goal.overflow_cast-end
+overflow_cast-end c = omega (arith, listed c.loop-arc.next.items c.args.arcs.now c.loop-arc.arc-index c.loop-arc-test.true c.loop-arc.invariant.lists.next_len)
+
+pub link_end-requires-clause-few : goal.link_end-requires-clause-few
+link_end-requires-clause-few c = omega (arith, listed c.loop-arc.next.items c.args.arcs.now c.loop-arc.arc-index c.loop-arc-test.true c.loop-arc.invariant.lists.next_len)
+
+pub link_end-requires-clause-room : goal.link_end-requires-clause-room
+link_end-requires-clause-room c = omega (arith, listed c.loop-arc.next.items c.args.arcs.now c.loop-arc.arc-index c.loop-arc-test.true c.loop-arc.invariant.lists.next_len)
+
+pub overflow_add-end : goal.overflow_add-end
+overflow_add-end c = omega (arith, listed c.loop-arc.next.items c.args.arcs.now c.loop-arc.arc-index c.loop-arc-test.true c.loop-arc.invariant.lists.next_len)
+
+pub link_end-requires-in-loop-arc-clause-few : goal.link_end-requires-in-loop-arc-clause-few
+link_end-requires-in-loop-arc-clause-few c = omega (arith, listed c.loop-arc.next.items c.args.arcs.now c.loop-arc.arc-index c.loop-arc-test.true c.loop-arc.invariant.lists.next_len)
+
+pub link_end-requires-clause-node : goal.link_end-requires-clause-node
+link_end-requires-clause-node c =
+    let row = c.requires.lawful c.loop-arc.arc-index no_arc c.loop-arc-test.true in
+    omega (arith, row.tail, c.loop-arc.invariant.lists.first_len, length-map c.loop-arc.first.items listed_end)
+
+pub link_end-requires-in-loop-arc-clause-node : goal.link_end-requires-in-loop-arc-clause-node
+link_end-requires-in-loop-arc-clause-node c =
+    let row = c.requires.lawful c.loop-arc.arc-index no_arc c.loop-arc-test.true in
+    omega (arith, row.head, c.loop-arc.invariant.lists.first_len, length-map c.loop-arc.first.items listed_end)
