@@ -215,15 +215,14 @@ ArePushes-more {arcs} {m} {n} {x} {e} {y} {f} {z} {g} first rest =
       balanced = λ v h. rest.balanced v (first.balanced v h);
     }
 
-pub HavePushed-none : {g : GraphView} {x : TrackedView ℤ} {e : List ℤ} {s : ScratchView} → IsCertifiedIn g x e s → HavePushed g 0 x x e e s s
-HavePushed-none {g} {x} {e} {s} state = record { written = IsWritten-same x; state = state; held = refl; pushes = ArePushes-none g.rows x.entries e }
+pub HavePushed-none : {g : GraphView} {x : TrackedView ℤ} {e : List ℤ} {s : ScratchView} → IsCertifiedIn g x e s → HavePushed g 0 x x e e s
+HavePushed-none {g} {x} {e} {s} state = record { written = IsWritten-same x; state = state; pushes = ArePushes-none g.rows x.entries e }
 
--- between the two only the scratch may change, and keeps the labels that are held
-pub HavePushed-more : {g : GraphView} {m n : ℕ} {x y z : TrackedView ℤ} {e f h : List ℤ} {s t u v : ScratchView} → HavePushed g m x y e f s t → HavePushed g n y z f h u v → u.tree ≡ t.tree → HavePushed g (m + n) x z e h s v
-HavePushed-more {g} {m} {n} {x} {y} {z} {e} {f} {h} {s} {t} {u} {v} first rest kept = record {
+-- between the two only the scratch may change
+pub HavePushed-more : {g : GraphView} {m n : ℕ} {x y z : TrackedView ℤ} {e f h : List ℤ} {s t : ScratchView} → HavePushed g m x y e f s → HavePushed g n y z f h t → HavePushed g (m + n) x z e h t
+HavePushed-more {g} {m} {n} {x} {y} {z} {e} {f} {h} {s} {t} first rest = record {
   written = IsWritten-trans x y z first.written rest.written;
   state = rest.state;
-  held = rest.held ∙ kept ∙ first.held;
   pushes = ArePushes-more first.pushes rest.pushes;
 }
 

@@ -3,6 +3,7 @@ use Rattle.std.specs.Prelude.{◌≡◌, ℤ, List, length}
 use Rattle.residual_graph.specs.Graph.{GraphView, HasEntries}
 use Rattle.residual_graph.specs.Residual.{ArePotentials, IsReducedCostOptimal}
 use Rattle.shortest_paths.specs.Limits.{label_floor}
+use Rattle.shortest_paths.specs.Tree.{IsForgotten}
 use Rattle.augmentation.specs.Push.{AreSmall}
 use Rattle.augmentation.specs.ScratchView.{ScratchView}
 use Rattle.tracked.specs.Tracked.{TrackedView}
@@ -19,9 +20,8 @@ pub record IsReady (g : GraphView) (x p e : List ℤ) : Type 0 where
   pub state : IsCertifiedPseudoflow g x p e
   pub in_range : ArePotentials (length p) label_floor p
 
--- so it is of a table of flows and the potentials of the scratch
-abbrev pub IsCertifiedIn : GraphView → TrackedView ℤ → List ℤ → ScratchView → Type 0
-IsCertifiedIn g flow e s = IsCertifiedPseudoflow g flow.entries s.potentials e
-
-abbrev pub IsReadyIn : GraphView → TrackedView ℤ → List ℤ → ScratchView → Type 0
-IsReadyIn g flow e s = IsReady g flow.entries s.potentials e
+-- so it is of a table of flows and the labels of the scratch, of which nothing is held
+pub record IsCertifiedIn (g : GraphView) (flow : TrackedView ℤ) (e : List ℤ) (s : ScratchView) : Type 0 where
+  pub state : IsCertifiedPseudoflow g flow.entries s.tree.labels e
+  pub open state use *
+  pub forgotten : IsForgotten s.tree

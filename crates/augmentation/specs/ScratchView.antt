@@ -1,11 +1,10 @@
 -- What contracts see of the tables that searches write in.
-use Rattle.std.specs.Prelude.{ℤ, Bool, List}
+use Rattle.std.specs.Prelude.{Bool, List}
 use Rattle.shortest_paths.specs.declared.predecessor.Predecessor.{Predecessor}
 use Rattle.shortest_paths.specs.Tree.{TreeView}
 
--- the potentials while flow is pushed, how the last search came to each node, the nodes that were marked last, and the tree of labels
+-- how the last search of the finish came to each node, the nodes that were marked last, and the tree of labels
 pub record ScratchView : Type 0 where
-  pub potentials : List ℤ
   pub predecessors : List Predecessor
   pub marks : List Bool
   pub tree : TreeView

@@ -82,14 +82,14 @@ pub fn adopt(
     scratch: &mut Scratch,
 ) -> Option<u64>
     requires ready { IsReady graph.now flow.old.entries potentials.old.entries excess.old }
-    requires scratch_in { length scratch.old.potentials ≡ length potentials.old.entries }
+    requires scratch_in { length scratch.old.tree.labels ≡ length potentials.old.entries }
     requires held { IsHeldIn graph.now.rows flow.old.whole scratch.old.tree }
     requires step { AreInStep scratch.old.tree potentials.old.entries }
     ensures flow_written { IsWritten flow.old flow.new }
     ensures potentials_written { IsWritten potentials.old potentials.new }
     ensures adopted { IsRaisedOrAsBefore graph.now result
         flow.old flow.new excess.old excess.new potentials.old potentials.new }
-    ensures scratch_in { length scratch.new.potentials ≡ length scratch.old.potentials }
+    ensures scratch_in { length scratch.new.tree.labels ≡ length scratch.old.tree.labels }
     ensures held { IsHeldIn graph.now.rows flow.new.whole scratch.new.tree }
     ensures step { AreInStep scratch.new.tree potentials.new.entries }
 {
@@ -119,14 +119,14 @@ pub fn push_proposed(
     scratch: &mut Scratch,
 ) -> Option<u64>
     requires ready { IsReady graph.now flow.old.entries potentials.old.entries excess.old }
-    requires scratch_in { length scratch.old.potentials ≡ length potentials.old.entries }
+    requires scratch_in { length scratch.old.tree.labels ≡ length potentials.old.entries }
     requires held { IsHeldIn graph.now.rows flow.old.whole scratch.old.tree }
     requires step { AreInStep scratch.old.tree potentials.old.entries }
     ensures flow_written { IsWritten flow.old flow.new }
     ensures potentials_written { IsWritten potentials.old potentials.new }
     ensures pushed { IsRaisedOrAsBefore graph.now result
         flow.old flow.new excess.old excess.new potentials.old potentials.new }
-    ensures scratch_in { length scratch.new.potentials ≡ length scratch.old.potentials }
+    ensures scratch_in { length scratch.new.tree.labels ≡ length scratch.old.tree.labels }
     ensures held { IsHeldIn graph.now.rows flow.new.whole scratch.new.tree }
     ensures step { AreInStep scratch.new.tree potentials.new.entries }
 {
@@ -151,14 +151,14 @@ fn push_from_afar(
     scratch: &mut Scratch,
 ) -> u64
     requires ready { IsReady graph.now flow.old.entries potentials.old.entries excess.old }
-    requires scratch_in { length scratch.old.potentials ≡ length potentials.old.entries }
+    requires scratch_in { length scratch.old.tree.labels ≡ length potentials.old.entries }
     requires held { IsHeldIn graph.now.rows flow.old.whole scratch.old.tree }
     requires step { AreInStep scratch.old.tree potentials.old.entries }
     ensures flow_written { IsWritten flow.old flow.new }
     ensures potentials_written { IsWritten potentials.old potentials.new }
     ensures pushed { IsCertifiedBy graph.now result
         flow.old.entries excess.old flow.new.entries excess.new potentials.new.entries }
-    ensures scratch_in { length scratch.new.potentials ≡ length scratch.old.potentials }
+    ensures scratch_in { length scratch.new.tree.labels ≡ length scratch.old.tree.labels }
     ensures held { IsHeldIn graph.now.rows flow.new.whole scratch.new.tree }
     ensures step { AreInStep scratch.new.tree potentials.new.entries }
 {
@@ -180,7 +180,7 @@ fn push_rest(
     scratch: &mut Scratch,
 ) -> u64
     requires ready { IsReady graph.now flow.old.entries potentials.old.entries excess.old }
-    requires scratch_in { length scratch.old.potentials ≡ length potentials.old.entries }
+    requires scratch_in { length scratch.old.tree.labels ≡ length potentials.old.entries }
     requires held { IsHeldIn graph.now.rows flow.old.whole scratch.old.tree }
     requires step { AreInStep scratch.old.tree potentials.old.entries }
     ensures flow_written { IsWritten flow.old flow.new }
@@ -188,12 +188,11 @@ fn push_rest(
     ensures pushed { IsRaisedBy graph.now result
         flow.old.entries excess.old flow.new.entries excess.new potentials.new.entries }
     ensures parted { IsParted graph.now.rows flow.new.entries excess.new }
-    ensures scratch_in { length scratch.new.potentials ≡ length scratch.old.potentials }
+    ensures scratch_in { length scratch.new.tree.labels ≡ length scratch.old.tree.labels }
     ensures held { IsHeldIn graph.now.rows flow.new.whole scratch.new.tree }
     ensures step { AreInStep scratch.new.tree potentials.new.entries }
 {
-    scratch.take_potentials(potentials.entries());
-    let count = finish(graph, flow, excess, scratch);
+    let count = finish(graph, flow, excess, potentials, scratch);
     if count > 0 {
         scratch.attempt.proposals.forget_arcs();
     }
@@ -212,7 +211,7 @@ pub fn push_all(
     scratch: &mut Scratch,
 ) -> u64
     requires ready { IsReady graph.now flow.old.entries potentials.old.entries excess.old }
-    requires scratch_in { length scratch.old.potentials ≡ length potentials.old.entries }
+    requires scratch_in { length scratch.old.tree.labels ≡ length potentials.old.entries }
     requires held { IsHeldIn graph.now.rows flow.old.whole scratch.old.tree }
     requires step { AreInStep scratch.old.tree potentials.old.entries }
     ensures flow_written { IsWritten flow.old flow.new }
@@ -220,7 +219,7 @@ pub fn push_all(
     ensures pushed { IsRaisedBy graph.now result
         flow.old.entries excess.old flow.new.entries excess.new potentials.new.entries }
     ensures parted { IsParted graph.now.rows flow.new.entries excess.new }
-    ensures scratch_in { length scratch.new.potentials ≡ length scratch.old.potentials }
+    ensures scratch_in { length scratch.new.tree.labels ≡ length scratch.old.tree.labels }
     ensures held { IsHeldIn graph.now.rows flow.new.whole scratch.new.tree }
     ensures step { AreInStep scratch.new.tree potentials.new.entries }
 {

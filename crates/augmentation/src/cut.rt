@@ -111,7 +111,7 @@ pub fn mark_cut(
     requires graph { HasEntries (length excess.now) graph.now }
     requires flow { IsPseudoflow (length excess.now) graph.now.rows flow.now.entries }
     requires cut_in { length cut.old.entries ≡ length excess.now }
-    requires scratch_in { length scratch.old.potentials ≡ length excess.now }
+    requires scratch_in { length scratch.old.tree.labels ≡ length excess.now }
     requires marked { TellsMarks are_marked graph.now flow.now excess.now scratch.old }
     ensures side { IsSideOfCut graph.now.rows flow.now.entries excess.now cut.new.entries }
     ensures written { IsWritten cut.old cut.new }

@@ -106,13 +106,13 @@ pub(crate) fn raise(
 ) -> bool
     requires graph { HasEntries (length potentials.old.entries) graph.now }
     requires flow { IsPseudoflow (length potentials.old.entries) graph.now.rows flow.now.entries }
-    requires scratch_in { length scratch.old.potentials ≡ length potentials.old.entries }
+    requires scratch_in { length scratch.old.tree.labels ≡ length potentials.old.entries }
     requires held { IsHeldIn graph.now.rows flow.now.whole scratch.old.tree }
     requires step { AreInStep scratch.old.tree potentials.old.entries }
     ensures written { IsWritten potentials.old potentials.new }
     ensures shortest { IsTrue result → AreShortest graph.now.rows flow.now.entries potentials.new.entries }
     ensures kept { OnFalse result (potentials.new ≡ potentials.old) }
-    ensures same_potentials { scratch.new.potentials ≡ scratch.old.potentials }
+    ensures scratch_in { length scratch.new.tree.labels ≡ length scratch.old.tree.labels }
     ensures held { IsHeldIn graph.now.rows flow.now.whole scratch.new.tree }
     ensures step { AreInStep scratch.new.tree potentials.new.entries }
 {
@@ -134,32 +134,31 @@ pub(crate) fn raise(
     true
 }
 
-/// Makes potentials those at which pushes stand, raised to the greatest that certify the flow.
+/// Makes potentials that certify a flow the greatest that do.
 pub(crate) fn write_raised(
     graph: &Graph,
     flow: &Tracked<i64>,
     potentials: &mut Tracked<i64>,
     scratch: &mut Scratch,
 )
-    requires graph { HasEntries (length scratch.old.potentials) graph.now }
+    requires graph { HasEntries (length potentials.old.entries) graph.now }
     requires certified { IsReducedCostOptimal graph.now.rows
-        flow.now.entries scratch.old.potentials }
-    requires same_length { length potentials.old.entries ≡ length scratch.old.potentials }
+        flow.now.entries potentials.old.entries }
+    requires scratch_in { length scratch.old.tree.labels ≡ length potentials.old.entries }
     requires held { IsHeldIn graph.now.rows flow.now.whole scratch.old.tree }
+    requires step { AreInStep scratch.old.tree potentials.old.entries }
     ensures written { IsWritten potentials.old potentials.new }
     ensures shortest { AreShortest graph.now.rows flow.now.entries potentials.new.entries }
-    ensures scratch_in { length scratch.new.potentials ≡ length scratch.old.potentials }
+    ensures scratch_in { length scratch.new.tree.labels ≡ length scratch.old.tree.labels }
     ensures held { IsHeldIn graph.now.rows flow.now.whole scratch.new.tree }
     ensures step { AreInStep scratch.new.tree potentials.new.entries }
 {
-    write_all(potentials, scratch.potentials());
-    scratch.tree.note_labels();
     if raise(graph, flow, potentials, scratch) {
         return;
     }
+    scratch.tree.take_potentials(potentials.entries());
     scratch.raise(graph, flow.entries());
-    write_all(potentials, scratch.potentials());
-    scratch.tree.note_labels();
+    write_all(potentials, scratch.labels());
 }
 
 /// Gets ready for edits, where some proposal was made, so that the first one need not go over all nodes and arcs:
@@ -174,10 +173,10 @@ pub fn prepare(
     requires graph { HasEntries (length potentials.now) graph.now }
     requires flow { IsPseudoflow (length potentials.now) graph.now.rows flow.now.entries }
     requires excess { length excess.now ≡ length potentials.now }
-    requires scratch_in { length scratch.old.potentials ≡ length potentials.now }
+    requires scratch_in { length scratch.old.tree.labels ≡ length potentials.now }
     requires held { IsHeldIn graph.now.rows flow.now.whole scratch.old.tree }
     requires step { AreInStep scratch.old.tree potentials.now }
-    ensures scratch_in { length scratch.new.potentials ≡ length scratch.old.potentials }
+    ensures scratch_in { length scratch.new.tree.labels ≡ length scratch.old.tree.labels }
     ensures held { IsHeldIn graph.now.rows flow.now.whole scratch.new.tree }
     ensures step { AreInStep scratch.new.tree potentials.now }
 {

@@ -22,9 +22,9 @@ pub(crate) fn push_to_all(
     scratch: &mut Scratch,
 ) -> u64
     requires state { IsCertifiedIn graph.now flow.old excess.old scratch.old }
-    requires forest { IsForest graph.now.rows scratch.old.potentials scratch.old.predecessors }
+    requires forest { IsForest graph.now.rows scratch.old.tree.labels scratch.old.predecessors }
     ensures pushed { HavePushed graph.now result
-        flow.old flow.new excess.old excess.new scratch.old scratch.new }
+        flow.old flow.new excess.old excess.new scratch.new }
 {
     let mut pushes = 0;
     for target in 0..scratch.predecessors.len() {
@@ -42,11 +42,11 @@ fn push_all_to(
     target: usize,
 ) -> u64
     requires state { IsCertifiedIn graph.now flow.old excess.old scratch.old }
-    requires forest { IsForest graph.now.rows scratch.old.potentials scratch.old.predecessors }
+    requires forest { IsForest graph.now.rows scratch.old.tree.labels scratch.old.predecessors }
     requires target { target < length scratch.old.predecessors }
     ensures pushed { HavePushed graph.now result
-        flow.old flow.new excess.old excess.new scratch.old scratch.new }
-    ensures forest { IsForest graph.now.rows scratch.new.potentials scratch.new.predecessors }
+        flow.old flow.new excess.old excess.new scratch.new }
+    ensures forest { IsForest graph.now.rows scratch.new.tree.labels scratch.new.predecessors }
     ensures same { scratch.new ≡ record scratch.old { predecessors = scratch.new.predecessors } }
 {
     let mut pushes = 0;
@@ -65,11 +65,11 @@ fn push_once(
     target: usize,
 ) -> bool
     requires state { IsCertifiedIn graph.now flow.old excess.old scratch.old }
-    requires forest { IsForest graph.now.rows scratch.old.potentials scratch.old.predecessors }
+    requires forest { IsForest graph.now.rows scratch.old.tree.labels scratch.old.predecessors }
     requires target { target < length scratch.old.predecessors }
     ensures pushed { HavePushed graph.now (one_if result)
-        flow.old flow.new excess.old excess.new scratch.old scratch.new }
-    ensures forest { IsForest graph.now.rows scratch.new.potentials scratch.new.predecessors }
+        flow.old flow.new excess.old excess.new scratch.new }
+    ensures forest { IsForest graph.now.rows scratch.new.tree.labels scratch.new.predecessors }
     ensures same { scratch.new ≡ record scratch.old { predecessors = scratch.new.predecessors } }
 {
     if excess.entries[target] >= 0 || !scratch.find_way(graph, flow.entries(), excess, target) {
@@ -90,11 +90,11 @@ pub(crate) fn push_to(
     target: usize,
 ) -> bool
     requires state { IsCertifiedIn graph.now flow.old excess.old scratch.now }
-    requires forest { IsForest graph.now.rows scratch.now.potentials scratch.now.predecessors }
+    requires forest { IsForest graph.now.rows scratch.now.tree.labels scratch.now.predecessors }
     requires reached { IsReached scratch.now.predecessors target }
     requires deficit { number_at excess.old target <ℤ pos 0 }
     ensures pushed { HavePushed graph.now (one_if result)
-        flow.old flow.new excess.old excess.new scratch.now scratch.now }
+        flow.old flow.new excess.old excess.new scratch.now }
     ensures some { HasFoundIn graph.now flow.old excess.old scratch.now target → IsTrue result }
 {
     let path = Path {

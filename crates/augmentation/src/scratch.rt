@@ -7,7 +7,7 @@ ghost use Rattle.residual_graph.specs.Limits.{row_limit};
 ghost use Rattle.residual_graph.specs.Residual.{IsPseudoflow, IsReducedCostOptimal};
 ghost use Rattle.residual_graph.specs.declared.side.Side.TheVariants.{Ahead};
 ghost use Rattle.shortest_paths.specs.Search.{IsForest, IsSearch};
-ghost use Rattle.shortest_paths.specs.Tree.{AreArcsNoted, IsMarkedToo, StaysHeld};
+ghost use Rattle.shortest_paths.specs.Tree.{AreArcsNoted, IsForgotten, IsMarkedToo, StaysHeld};
 ghost use Rattle.augmentation.specs.Certificate.{AreInRange};
 ghost use Rattle.augmentation.specs.Cut.{IsParted, AreOnSide};
 ghost use Rattle.augmentation.specs.Settle.{AreShortest};
@@ -20,7 +20,7 @@ use crate::trails::{Ground, Trails, find_way};
 use containers::{Queue, both};
 use proposals::Wanted;
 use residual_graph::{Graph, Side};
-use shortest_paths::{Predecessor, Tree, search_labels, search_levels};
+use shortest_paths::{Predecessor, Tree, search_levels};
 use std::alloc::{AllocError, Global};
 use std::marker::Model;
 use tracked::Touched;
@@ -35,9 +35,7 @@ pub struct Scratch {
     pub(crate) queue: Queue,
     /// What walks back along these paths remember.
     pub(crate) trails: Trails,
-    /// Potentials while searches push.
-    pub(crate) potentials: Vec<i64>,
-    /// The labels that were tested last, and what changed since.
+    /// The labels that were tested last, and what changed since; in the finish, the potentials with which it searches.
     pub(crate) tree: Tree,
     /// The nodes of a side, while a cut is looked for, and the arcs over which nodes were marked last.
     pub(crate) marked: Touched,
@@ -53,7 +51,6 @@ impl Model for Scratch {
     ghost use Rattle.augmentation.specs.Scratch.{IsScratch};
 
     ghost view = { λ s. record {
-      potentials = s.potentials.items;
       predecessors = s.predecessors.items;
       marks = s.marked;
       tree = s.tree;
@@ -86,28 +83,25 @@ impl Scratch {
     /// Memory for a table was refused.
     pub fn new(alloc: Global, entries: u32, arcs: usize) -> Result<Scratch, AllocError>
         requires { entries ≤ row_limit }
-        ensures sized { IfOk result (λ s. length s.potentials ≡ entries) }
+        ensures sized { IfOk result (λ s. length s.tree.labels ≡ entries) }
         ensures lost { IfOk result (λ s. s.tree.is_lost ≡ true) }
         ensures apart { IfOk result (λ s. s.tree.are_apart ≡ true) }
     {
         let predecessors = Vec::with_capacity(alloc, entries as usize);
         let queue = Queue::new(alloc, entries);
         let trails = Trails::new(alloc, entries as usize);
-        let potentials = vec![in alloc; 0; entries as usize];
         let tree = Tree::new(alloc, entries as usize, arcs);
         let marked = Touched::new(alloc, entries as usize);
         let hops = Vec::with_capacity(alloc, entries as usize);
         let attempt = Attempt::new(alloc, entries as usize, arcs);
-        let (((predecessors, trails), (queue, potentials)), ((marked, hops), (tree, attempt))) =
-            both(
-                both(both(predecessors, trails), both(queue, potentials)),
-                both(both(marked, hops), both(tree, attempt)),
-            )?;
+        let (((predecessors, trails), queue), ((marked, hops), (tree, attempt))) = both(
+            both(both(predecessors, trails), queue),
+            both(both(marked, hops), both(tree, attempt)),
+        )?;
         Ok(Scratch {
             predecessors,
             queue,
             trails,
-            potentials,
             tree,
             marked,
             hops,
@@ -115,20 +109,12 @@ impl Scratch {
         })
     }
 
-    /// The potentials at which pushes stand.
+    /// The label of each node.
     #[inline(always)]
-    pub fn potentials(&self) -> &[i64]
-        ensures { result.now ≡ self.now.potentials }
+    pub fn labels(&self) -> &[i64]
+        ensures { result.now ≡ self.now.tree.labels }
     {
-        &self.potentials
-    }
-
-    /// Makes these the potentials with which pushes begin.
-    pub fn take_potentials(&mut self, potentials: &[i64])
-        requires same_length { length potentials.now ≡ length self.old.potentials }
-        ensures { self.new ≡ record self.old { potentials = potentials.now } }
-    {
-        self.potentials.copy_from_slice(potentials);
+        self.tree.labels()
     }
 
     /// Notes that the arcs in these rows may have got another row or another flow: the next proposal looks at them, and so
@@ -144,7 +130,7 @@ impl Scratch {
 
     /// Notes that the potential of a node may be another than the label.
     pub fn note_potential(&mut self, v: usize)
-        requires node { v < length self.old.potentials }
+        requires node { v < length self.old.tree.labels }
         ensures same { self.new ≡ record self.old {
           tree = record self.old.tree { touched = self.new.tree.touched };
         } }
@@ -169,8 +155,8 @@ impl Scratch {
 
     /// Has this proposal at hand, with potentials that are likely to certify it.
     pub fn offer(&mut self, wanted: Wanted, excess: &Excess, potentials: &[i64])
-        requires excess { length excess.now ≡ length self.old.potentials }
-        requires potentials { length potentials.now ≡ length self.old.potentials }
+        requires excess { length excess.now ≡ length self.old.tree.labels }
+        requires potentials { length potentials.now ≡ length self.old.tree.labels }
         ensures { self.new ≡ self.old }
     {
         self.attempt.wanted = wanted;
@@ -185,7 +171,7 @@ impl Scratch {
         requires graph { HasEntries (length potentials.now) graph.now }
         requires flow { IsPseudoflow (length potentials.now) graph.now.rows flow.now }
         requires excess { length excess.now ≡ length potentials.now }
-        requires potentials { length potentials.now ≡ length self.old.potentials }
+        requires potentials { length potentials.now ≡ length self.old.tree.labels }
         ensures { self.new ≡ self.old }
     {
         self.attempt.propose(graph, flow, excess, potentials);
@@ -193,9 +179,9 @@ impl Scratch {
 
     /// Marks the nodes in excess and all that they reach, and says whether none of these is in deficit.
     pub fn is_parted(&mut self, graph: &Graph, flow: &[i64], excess: &Excess) -> bool
-        requires graph { HasEntries (length self.old.potentials) graph.now }
-        requires flow { IsPseudoflow (length self.old.potentials) graph.now.rows flow.now }
-        requires excess { length excess.now ≡ length self.old.potentials }
+        requires graph { HasEntries (length self.old.tree.labels) graph.now }
+        requires flow { IsPseudoflow (length self.old.tree.labels) graph.now.rows flow.now }
+        requires excess { length excess.now ≡ length self.old.tree.labels }
         ensures same { self.new ≡ record self.old { marks = self.new.marks } }
         ensures marked { AreOnSide Ahead graph.now.rows flow.now excess.now self.new.marks }
         ensures parted { IsTrue result → IsParted graph.now.rows flow.now excess.now }
@@ -206,9 +192,9 @@ impl Scratch {
 
     /// Marks the nodes of a side.
     pub(crate) fn mark_side(&mut self, side: Side, graph: &Graph, flow: &[i64], excess: &Excess)
-        requires graph { HasEntries (length self.old.potentials) graph.now }
-        requires flow { IsPseudoflow (length self.old.potentials) graph.now.rows flow.now }
-        requires excess { length excess.now ≡ length self.old.potentials }
+        requires graph { HasEntries (length self.old.tree.labels) graph.now }
+        requires flow { IsPseudoflow (length self.old.tree.labels) graph.now.rows flow.now }
+        requires excess { length excess.now ≡ length self.old.tree.labels }
         ensures same { self.new ≡ record self.old { marks = self.new.marks } }
         ensures marked { AreOnSide side graph.now.rows flow.now excess.now self.new.marks }
     {
@@ -227,22 +213,23 @@ impl Scratch {
     /// Searches breadth first from the nodes in excess over residual arcs that cost nothing, and says whether it came to a
     /// node in deficit.
     pub(crate) fn search_levels(&mut self, graph: &Graph, flow: &[i64], excess: &Excess) -> bool
-        requires graph { HasEntries (length self.old.potentials) graph.now }
-        requires certified { IsReducedCostOptimal graph.now.rows flow.now self.old.potentials }
-        requires excess_in { length excess.now ≡ length self.old.potentials }
+        requires graph { HasEntries (length self.old.tree.labels) graph.now }
+        requires certified { IsReducedCostOptimal graph.now.rows flow.now self.old.tree.labels }
+        requires excess_in { length excess.now ≡ length self.old.tree.labels }
         ensures same { self.new ≡ record self.old { predecessors = self.new.predecessors } }
-        ensures paths { IsSearch graph.now.rows flow.now self.old.potentials self.new.predecessors }
+        ensures paths { IsSearch graph.now.rows flow.now self.old.tree.labels
+            self.new.predecessors }
     {
         open(
             &mut self.predecessors,
             &mut self.queue,
-            self.potentials.len(),
+            self.tree.labels().len(),
         );
         search_levels(
             graph,
             flow,
             excess.entries(),
-            &self.potentials,
+            self.tree.labels(),
             &mut self.predecessors,
             &mut self.queue,
         )
@@ -256,54 +243,48 @@ impl Scratch {
         excess: &Excess,
         target: usize,
     ) -> bool
-        requires certified { IsReducedCostOptimal graph.now.rows flow.now self.old.potentials }
-        requires excess_in { length excess.now ≡ length self.old.potentials }
-        requires forest { IsForest graph.now.rows self.old.potentials self.old.predecessors }
+        requires certified { IsReducedCostOptimal graph.now.rows flow.now self.old.tree.labels }
+        requires excess_in { length excess.now ≡ length self.old.tree.labels }
+        requires forest { IsForest graph.now.rows self.old.tree.labels self.old.predecessors }
         ensures same { self.new ≡ record self.old { predecessors = self.new.predecessors } }
-        ensures forest { IsForest graph.now.rows self.old.potentials self.new.predecessors }
+        ensures forest { IsForest graph.now.rows self.old.tree.labels self.new.predecessors }
     {
         let ground = Ground {
             graph,
             flow,
             excess: excess.entries(),
-            potentials: &self.potentials,
+            potentials: self.tree.labels(),
         };
         find_way(ground, &mut self.predecessors, &mut self.trails, target)
     }
 
-    /// Makes potentials that certify a flow the greatest that do, by a search from all nodes: so seldom that no search
-    /// waits for it.
+    /// Makes labels that certify a flow the greatest potentials that do, by a search from all nodes: so seldom that no
+    /// search waits for it.
     pub(crate) fn raise(&mut self, graph: &Graph, flow: &[i64])
-        requires graph { HasEntries (length self.old.potentials) graph.now }
-        requires certified { IsReducedCostOptimal graph.now.rows flow.now self.old.potentials }
-        ensures sized { length self.new.potentials ≡ length self.old.potentials }
-        ensures held { self.new.tree ≡ self.old.tree }
-        ensures shortest { AreShortest graph.now.rows flow.now self.new.potentials }
+        requires graph { HasEntries (length self.old.tree.labels) graph.now }
+        requires certified { IsReducedCostOptimal graph.now.rows flow.now self.old.tree.labels }
+        ensures sized { length self.new.tree.labels ≡ length self.old.tree.labels }
+        ensures forgotten { IsForgotten self.new.tree }
+        ensures shortest { AreShortest graph.now.rows flow.now self.new.tree.labels }
     {
         open(
             &mut self.predecessors,
             &mut self.queue,
-            self.potentials.len(),
+            self.tree.labels().len(),
         );
-        search_labels(
-            graph,
-            flow,
-            &mut self.potentials,
-            &mut self.predecessors,
-            &mut self.queue,
-        );
+        self.tree
+            .raise(graph, flow, &mut self.predecessors, &mut self.queue);
     }
 
     /// Makes them so where one of them left the range with which a search begins.
     pub(crate) fn bring_in_range(&mut self, graph: &Graph, flow: &[i64])
-        requires graph { HasEntries (length self.old.potentials) graph.now }
-        requires certified { IsReducedCostOptimal graph.now.rows flow.now self.old.potentials }
-        ensures sized { length self.new.potentials ≡ length self.old.potentials }
-        ensures held { self.new.tree ≡ self.old.tree }
-        ensures certified { IsReducedCostOptimal graph.now.rows flow.now self.new.potentials }
-        ensures in_range { AreInRange self.new.potentials }
+        requires graph { HasEntries (length self.old.tree.labels) graph.now }
+        requires certified { IsReducedCostOptimal graph.now.rows flow.now self.old.tree.labels }
+        ensures sized { length self.new.tree.labels ≡ length self.old.tree.labels }
+        ensures certified { IsReducedCostOptimal graph.now.rows flow.now self.new.tree.labels }
+        ensures in_range { AreInRange self.new.tree.labels }
     {
-        if !are_in_range(&self.potentials) {
+        if !are_in_range(self.tree.labels()) {
             self.raise(graph, flow);
         }
     }

@@ -30,7 +30,7 @@ module _ {T : Type 0} where
 -- the tables fit a graph of as many nodes still, where there are as many flows as its rows and the others are written
 pub fit_again : (g h : Graph) (flow flow' : TrackedView ℤ) (p p' : TrackedView ℤ) (cut cut' : TrackedView Bool) (scratch scratch' : ScratchView) →
     FitGraph g flow p cut scratch → h.net.nodes ≡ g.net.nodes → h.net.room ≡ g.net.room → IsGraph h → length flow'.entries ≡ length h.rows → length flow'.whole ≡ length h.rows → flow'.room ≡ flow.room →
-    IsWritten p p' → IsIdleEntry p'.entries → IsWritten cut cut' → length scratch'.potentials ≡ g.net.nodes + 1 → FitGraph h flow' p' cut' scratch'
+    IsWritten p p' → IsIdleEntry p'.entries → IsWritten cut cut' → length scratch'.tree.labels ≡ g.net.nodes + 1 → FitGraph h flow' p' cut' scratch'
 fit_again g h flow flow' p p' cut cut' scratch scratch' t nodes room_is graph flow_in flow_whole same_room p_written idle cut_written scratch_in = record {
   graph = graph;
   flow_in = flow_in;
@@ -46,7 +46,7 @@ fit_again g h flow flow' p p' cut cut' scratch scratch' t nodes room_is graph fl
 -- the same where the flow is written, and the graph has as many rows
 pub fit_written : (g h : Graph) (flow flow' : TrackedView ℤ) (p p' : TrackedView ℤ) (cut cut' : TrackedView Bool) (scratch scratch' : ScratchView) →
     FitGraph g flow p cut scratch → h.net.nodes ≡ g.net.nodes → h.net.room ≡ g.net.room → IsGraph h → length h.rows ≡ length g.rows → IsWritten flow flow' →
-    IsWritten p p' → IsIdleEntry p'.entries → IsWritten cut cut' → length scratch'.potentials ≡ g.net.nodes + 1 → FitGraph h flow' p' cut' scratch'
+    IsWritten p p' → IsIdleEntry p'.entries → IsWritten cut cut' → length scratch'.tree.labels ≡ g.net.nodes + 1 → FitGraph h flow' p' cut' scratch'
 fit_written g h flow flow' p p' cut cut' scratch scratch' t nodes room_is graph many written =
     fit_again g h flow flow' p p' cut cut' scratch scratch' t nodes room_is graph (written.same_length ∙ t.flow_in ∙ sym many) (rw written.whole (t.flow_whole ∙ sym many)) written.same_room
 

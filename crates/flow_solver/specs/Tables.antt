@@ -35,7 +35,7 @@ pub record FitGraph (g : Graph) (flow : TrackedView ℤ) (potentials : TrackedVi
   pub idle : IsIdleEntry potentials.entries
   pub kept_idle : IsIdleEntry potentials.kept
   pub cut_in : IsOfNodes g.net.nodes cut
-  pub scratch_in : length scratch.potentials ≡ g.net.nodes + 1
+  pub scratch_in : length scratch.tree.labels ≡ g.net.nodes + 1
 
 -- the tables fit the graph, and there is room to log a group. What is told of the potentials is true, and labels that were
 -- tested are held under the flow that was kept; it is known where the potentials may be others than these

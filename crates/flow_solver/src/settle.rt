@@ -50,7 +50,7 @@ pub fn push_and_raise(
     requires rows { AreRowsOf graph.now.net graph.now.rows }
     requires ready { IsReady graph.now flow.old.entries potentials.old.table.entries excess.old }
     requires told { AreAsTold graph.now.net flow.old.entries potentials.old }
-    requires scratch_in { length scratch.old.potentials ≡ length excess.old }
+    requires scratch_in { length scratch.old.tree.labels ≡ length excess.old }
     requires held { IsHeldIn graph.now.rows flow.old.whole scratch.old.tree }
     requires step { KeepStep potentials.old scratch.old }
     ensures flow_written { IsWritten flow.old flow.new }
@@ -62,7 +62,7 @@ pub fn push_and_raise(
         flow.old.entries excess.old flow.new.entries excess.new }
     ensures parted { IsParted graph.now.rows flow.new.entries excess.new }
     ensures marked { IsTrue result.are_marked → AreOnSide Ahead graph.now.rows flow.new.entries excess.new scratch.new.marks }
-    ensures scratch_in { length scratch.new.potentials ≡ length excess.new }
+    ensures scratch_in { length scratch.new.tree.labels ≡ length excess.new }
     ensures held { IsHeldIn graph.now.rows flow.new.whole scratch.new.tree }
     ensures step { KeepStep potentials.new scratch.new }
 {

@@ -81,7 +81,7 @@ pub fn start_nodes(
     ensures told { IfOk result (λ t. t.0.greatest ≡ false) }
     ensures cut { IfOk result (λ t. t.1.entries ≡ replicate (nodes + 1) false) }
     ensures cut_kept { IfOk result (λ t. t.1.kept ≡ replicate (nodes + 1) false) }
-    ensures scratch { IfOk result (λ t. length t.2.potentials ≡ nodes + 1) }
+    ensures scratch { IfOk result (λ t. length t.2.tree.labels ≡ nodes + 1) }
     ensures lost { IfOk result (λ t. t.2.tree.is_lost ≡ true) }
     ensures apart { IfOk result (λ t. t.2.tree.are_apart ≡ true) }
 {

@@ -40,6 +40,11 @@ pub record IsRelabelled (t u : TreeView) : Type 0 where
   pub lost : u.is_lost ≡ t.is_lost
   pub apart : u.are_apart ≡ t.are_apart
 
+-- nothing is held of the labels, and any potential may be another
+pub record IsForgotten (t : TreeView) : Type 0 where
+  pub lost : t.is_lost ≡ true
+  pub apart : t.are_apart ≡ true
+
 -- potentials are the labels but at marked nodes, unless any may be another
 abbrev pub AreInStep : TreeView → List ℤ → Type 0
 AreInStep t p = t.are_apart ≡ false → AgreeUnmarked t.touched t.labels p

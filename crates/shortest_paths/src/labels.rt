@@ -58,7 +58,7 @@ fn settle(
 /// Raises potentials that certify a flow until they are the greatest that do: those of open nodes rise together until one
 /// is 0, or a residual arc from a node that is not open costs nothing.
 #[inline(never)] // a name of its own in the program: `bench/count` counts its calls
-pub fn search_labels(
+pub(crate) fn search_labels(
     graph: &Graph,
     flow: &[i64],
     potentials: &mut [i64],

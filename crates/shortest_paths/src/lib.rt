@@ -15,9 +15,7 @@ mod search;
 mod step;
 mod tree;
 
-pub use labels::search_labels;
 pub use levels::{hang_on, search_levels};
 pub use predecessor::{Predecessor, are_traced, is_traced, reduced_along};
 pub use residual_network::Residual;
-pub use search::search_from_excess;
 pub use tree::Tree;

@@ -179,7 +179,7 @@ fn is_last(found: Option<usize>, lacking: usize) -> bool
 /// of these nodes until the residual arcs of the paths to them cost nothing: so one search serves many pushes. Gives the
 /// first node in deficit that it came to, or nothing where none can be reached.
 #[inline(never)] // a name of its own in the program, for profiles
-pub fn search_from_excess(
+pub(crate) fn search_from_excess(
     graph: &Graph,
     flow: &[i64],
     excess: &[i64],

@@ -10,6 +10,7 @@ ghost use Rattle.shortest_paths.specs.Tree.{AreArcsNoted, IsMarkedToo, IsNotedIn
 
 mod joining;
 mod near;
+mod potentials;
 mod whole;
 
 use crate::forest::Forest;

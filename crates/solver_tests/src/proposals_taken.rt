@@ -341,7 +341,7 @@ fn push_from(
     );
     assert!(rt; ready);
     let entries = start.potentials.entries().len();
-    assert!(rt; run.scratch.potentials().len() == entries);
+    assert!(rt; run.scratch.labels().len() == entries);
     prepare(
         &run.graph,
         start.flow.entries(),
@@ -398,7 +398,7 @@ fn expect_from(
         let best = is_best(
             &run.graph,
             start.flow.entries(),
-            run.scratch.potentials(),
+            start.potentials.entries(),
             worth,
         );
         assert!(rt; best);

@@ -18,7 +18,7 @@ pub fn prepare(
     wanted: Option<(Wanted, &[i64])>,
 )
     requires state { IsCertifiedPseudoflow graph.now flow.now potentials.now excess.now }
-    requires scratch_in { length scratch.old.potentials ≡ length potentials.now }
+    requires scratch_in { length scratch.old.tree.labels ≡ length potentials.now }
     ensures { scratch.new ≡ scratch.old }
 {
     match wanted {
@@ -41,10 +41,9 @@ pub fn take_up(
     scratch: &mut Scratch,
 ) -> (Option<u64>, u64)
     requires ready { IsReady graph.now flow.old.entries potentials.old.entries excess.old }
-    requires scratch_in { length scratch.old.potentials ≡ length potentials.old.entries }
+    requires scratch_in { length scratch.old.tree.labels ≡ length potentials.old.entries }
 {
     scratch.forget();
     let adopted = adopt(graph, flow, excess, potentials, scratch);
-    scratch.take_potentials(potentials.entries());
-    (adopted, finish(graph, flow, excess, scratch))
+    (adopted, finish(graph, flow, excess, potentials, scratch))
 }

@@ -8,7 +8,7 @@ use Rattle.augmentation.proofs.near.raise.Goals as goal
 pub returns-clause-shortest : goal.returns-clause-shortest
 returns-clause-shortest c = λ yes.
     (let t = c.is_renewed.new.tree in
-    let sized = c.is_renewed.ensures.sized ∙ ap (λ (u : TreeView). length u.labels) c.lower.ensures ∙ c.scratch.invariant.tree_sized ∙ ap (λ (v : ScratchView). length v.potentials) c.scratch.view_is ∙ c.requires.scratch_in in
+    let sized = c.is_renewed.ensures.sized ∙ ap (λ (u : TreeView). length u.labels) c.lower.ensures ∙ ap (λ (v : ScratchView). length v.tree.labels) c.scratch.view_is ∙ c.requires.scratch_in in
     subst (AreShortest c.args.graph.now.rows c.args.flow.now.entries) (sym c.write_labels.ensures.entries)
     (shortest_of (length c.args.potentials.now.entries) c.args.graph.now.rows c.args.flow.now.entries t.labels t.predecessors c.requires.flow sized (c.is_renewed.ensures.tested c.if-not-is_renewed.false)))
 

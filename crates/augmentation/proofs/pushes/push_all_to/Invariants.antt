@@ -6,8 +6,8 @@ use Rattle.augmentation.proofs.pushes.push_all_to.Given as goal
 
 abbrev pub invariant-loop-pushes : goal.invariant-loop-pushes
 invariant-loop-pushes l = record {
-  pushed : HavePushed l.graph l.pushes l.initial.flow l.flow l.initial.excess l.excess l.initial.scratch l.scratch;
-  forest : IsForest l.graph.rows l.scratch.potentials l.scratch.predecessors;
+  pushed : HavePushed l.graph l.pushes l.initial.flow l.flow l.initial.excess l.excess l.scratch;
+  forest : IsForest l.graph.rows l.scratch.tree.labels l.scratch.predecessors;
   same : l.scratch ≡ record l.initial.scratch { predecessors = l.scratch.predecessors };
 }
 

@@ -18,14 +18,14 @@ tables c = c.deref.ensures.value ∙ ap (λ (v : ScratchView). v.predecessors) c
 excesses : (c : After-augment) → c.deref_mut.result.now ≡ c.args.excess.now
 excesses c = c.deref_mut.ensures.value ∙ c.excess.view_is
 
-is_pushed : (c : After-augment) → IsPushedOn c.args.graph.now c.args.scratch.now.potentials c.augment.result c.args.flow.now.entries c.args.excess.now c.augment.new.flow.entries c.augment.new.excess
+is_pushed : (c : After-augment) → IsPushedOn c.args.graph.now c.args.scratch.now.tree.labels c.augment.result c.args.flow.now.entries c.args.excess.now c.augment.new.flow.entries c.augment.new.excess
 is_pushed c =
     let rows = c.args.graph.now.rows in
     let x = c.args.flow.now.entries in
     let t = c.args.target in
     let y = c.augment.new.flow.entries in
     let f = c.augment.new.excess in
-    pushed_on c.args.graph.now x c.args.scratch.now.potentials c.args.excess.now c.args.scratch.now.predecessors t y f c.augment.result c.requires.forest c.requires.reached c.requires.state
+    pushed_on c.args.graph.now x c.args.scratch.now.tree.labels c.args.excess.now c.args.scratch.now.predecessors t y f c.augment.result c.requires.forest c.requires.reached c.requires.state.state
     (λ yes. subst (λ (l : List Predecessor). IsAugmented rows l t x c.args.excess.now y f) (tables c)
     (subst (λ (g : List ℤ). IsAugmented rows c.deref.result.now t x g y f) (excesses c) (c.augment.ensures.pushed yes)))
     (λ no. (c.augment.ensures.same_flow no, c.augment.ensures.same_excess no ∙ excesses c))
@@ -51,8 +51,10 @@ returns-clause-pushed c =
     let y = c.augment.new.flow.entries in
     record {
       written = c.augment.ensures.written;
-      state = subst (IsCertifiedPseudoflow c.args.graph.now y c.args.scratch.now.potentials) (sym (excess_is a)) (is_pushed a).state;
-      held = refl;
+      state = record {
+        state = subst (IsCertifiedPseudoflow c.args.graph.now y c.args.scratch.now.tree.labels) (sym (excess_is a)) (is_pushed a).state;
+        forgotten = c.requires.state.forgotten;
+      };
       pushes = subst (ArePushes c.args.graph.now.rows (one_if c.augment.result) c.args.flow.now.entries c.args.excess.now y) (sym (excess_is a)) (is_pushed a).pushed;
     }
 
@@ -66,5 +68,5 @@ returns-clause-some c = λ found.
       paths = subst (λ (l : List Predecessor). HavePaths rows x l) (sym (tables a)) found.search.paths;
       gives = subst (λ (l : List Predecessor). pos 0 <ℤ number_at c.deref_mut.result.now (root_to rows l c.args.target)) (sym (tables a))
           (subst (λ (e : List ℤ). pos 0 <ℤ number_at e (root_to rows s c.args.target)) (sym (excesses a))
-          (root_in_excess rows x c.args.scratch.now.potentials c.args.excess.now s c.args.target found));
+          (root_in_excess rows x c.args.scratch.now.tree.labels c.args.excess.now s c.args.target found));
     }))

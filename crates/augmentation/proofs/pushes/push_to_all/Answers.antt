@@ -8,7 +8,7 @@ loop-target-init c = record { pushed = HavePushed-none c.requires.state; forest 
 
 pub overflow_add-pushes : goal.overflow_add-pushes
 overflow_add-pushes c =
-    let fits = count_fits c.requires.state (HavePushed-more c.loop-target.invariant.pushed c.push_all_to-pushes.ensures.pushed refl).pushes in
+    let fits = count_fits c.requires.state.state (HavePushed-more c.loop-target.invariant.pushed c.push_all_to-pushes.ensures.pushed).pushes in
     let bound : c.loop-target.pushes + c.push_all_to-pushes.result < 2 ^ 64 = omega (arith, fits) in
     search (rules, bound)
 
@@ -17,7 +17,7 @@ loop-target-preserved c =
     let inv = c.loop-target.invariant in
     let call = c.push_all_to-pushes.ensures in
     record {
-      pushed = HavePushed-more inv.pushed call.pushed refl;
+      pushed = HavePushed-more inv.pushed call.pushed;
       forest = call.forest;
       same = call.same ∙ ap (λ (v : ScratchView). record v { predecessors = c.push_all_to-pushes.new.scratch.predecessors }) inv.same;
     }

@@ -1,18 +1,16 @@
-use Rattle.std.proofs.Common.{◌+◌, ◌∙◌, ◌^◌, ◌<◌, ap, arith, refl, rules}
-use Rattle.augmentation.specs.ScratchView.{ScratchView}
-use Rattle.augmentation.proofs.SettleLemmas.{ArePushes-more, ArePushes-none, HavePushed-more, count_fits}
-use Rattle.tracked.proofs.TrackedLemmas.{IsWritten-same}
+use Rattle.std.proofs.Common.{◌+◌, ◌^◌, ◌<◌, arith, rules, subst, sym}
+use Rattle.augmentation.specs.Pseudoflow.{IsCertifiedIn}
+use Rattle.augmentation.proofs.SettleLemmas.{ArePushes-more, HavePushed-more, HavePushed-none, count_fits}
 use Rattle.augmentation.proofs.rounds.push_by_levels.Goals as goal
 
 pub loop-scratch-init : goal.loop-scratch-init
-loop-scratch-init c = record { written = IsWritten-same _; state = search rules; held = refl; pushes = ArePushes-none _ _ _ }
+loop-scratch-init c = HavePushed-none (subst (IsCertifiedIn c.args.graph.now c.args.flow.now c.args.excess.now) (sym c.scratch.view_is) c.requires.state)
 
 pub overflow_add-pushes : goal.overflow_add-pushes
 overflow_add-pushes c =
-    let fits = count_fits c.requires.state (ArePushes-more c.loop-scratch.invariant.pushes c.push_to_all-more.ensures.pushed.pushes) in
+    let fits = count_fits c.requires.state.state (ArePushes-more c.loop-scratch.invariant.pushes c.push_to_all-more.ensures.pushed.pushes) in
     let bound : c.loop-scratch.pushes + c.push_to_all-more.result < 2 ^ 64 = omega (arith, fits) in
     search (rules, bound)
 
 pub loop-scratch-preserved : goal.loop-scratch-preserved
-loop-scratch-preserved c =
-    HavePushed-more c.loop-scratch.invariant c.push_to_all-more.ensures.pushed (ap (λ (v : ScratchView). v.tree) c.scratch-in-loop-scratch.view_is ∙ ap (λ (v : ScratchView). v.tree) c.search_levels.ensures.same)
+loop-scratch-preserved c = HavePushed-more c.loop-scratch.invariant c.push_to_all-more.ensures.pushed

@@ -29,7 +29,7 @@ invariant_of-self c =
         idle = subst IsIdleEntry (sym c.bring_back-2.ensures.entries) inv.kept_idle;
         kept_idle = subst IsIdleEntry (sym c.bring_back-2.ensures.kept) inv.kept_idle;
         cut_in = record { entries_in = rw c.bring_back-3.ensures.entries inv.cut_in.kept_in; kept_in = rw c.bring_back-3.ensures.kept inv.cut_in.kept_in };
-        scratch_in = rw c.note_potentials.ensures (ap (λ (v : ScratchView). length v.potentials) c.note_all.ensures.same ∙ inv.scratch_in);
+        scratch_in = rw c.note_potentials.ensures (ap length c.note_all.ensures.held.labels ∙ inv.scratch_in);
       };
       balance_is = balance_back I t.graph.rows t.flow c.bring_back.new.self t.balance _ c.bring_back.ensures.none_added c.bring_back.ensures.entries c.bring_back.ensures.whole
           c.carry_back.ensures.same_length excess refl inv.balance_is;

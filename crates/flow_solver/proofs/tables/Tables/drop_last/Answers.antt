@@ -6,7 +6,6 @@ use Rattle.dimacs_text.specs.declared.problem.ArcRow.{ArcRow}
 use Rattle.network.specs.Instance.{Instance}
 use Rattle.flow_solver.specs.TablesView.{TablesView}
 use Rattle.residual_graph.specs.Residual.{row_at, number_at}
-use Rattle.augmentation.specs.ScratchView.{ScratchView}
 use Rattle.augmentation.proofs.NearLemmas.{step_kept}
 use Rattle.flow_solver.proofs.CarryLemmas.{arcs_in, balance_dropped, ends_in}
 use Rattle.flow_solver.proofs.HeldTables.{held_dropped}
@@ -55,7 +54,7 @@ invariant_of-self c =
           (sym (ap (λ (K : Instance). K.nodes) c.pop_arc-row.ensures.net)) (sym (ap (λ (K : Instance). K.room) c.pop_arc-row.ensures.net)) c.pop_arc-row.ensures.graph
           (omega (arith, entries_less, inv.flow_in, one_less))
           (omega (arith, ap (λ (xs : List ℤ). length xs) c.pop-flow.ensures.whole, length-take-le (length c.pop-flow.new.self.entries) t.flow.whole (omega (arith, entries_less, inv.flow_in, inv.flow_whole)), entries_less, inv.flow_in, one_less))
-          c.pop-flow.ensures.room (IsWritten-same t.potentials.table) inv.idle (IsWritten-same t.cut) (ap (λ (v : ScratchView). length v.potentials) c.note_all.ensures.same ∙ inv.scratch_in);
+          c.pop-flow.ensures.room (IsWritten-same t.potentials.table) inv.idle (IsWritten-same t.cut) (ap length c.note_all.ensures.held.labels ∙ inv.scratch_in);
       balance_is = balance;
       told = λ none. cc;
       held = held_dropped t.graph.rows t.flow.whole t.scratch.tree c.note_all.new.self.tree c.note_all.ensures.held inv.held c.pop_arc-row.new.self.rows c.pop-flow.new.self.whole last c.pop_arc-row.result c.pop_arc-row.ensures.rows

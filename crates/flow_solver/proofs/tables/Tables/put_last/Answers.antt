@@ -5,7 +5,6 @@ use Rattle.std.proofs.lemmas.List.{length-append}
 use Rattle.dimacs_text.specs.declared.problem.ArcRow.{ArcRow}
 use Rattle.network.specs.Instance.{Demand, Instance, reduced_arcs}
 use Rattle.flow_solver.specs.TablesView.{TablesView}
-use Rattle.augmentation.specs.ScratchView.{ScratchView}
 use Rattle.augmentation.proofs.NearLemmas.{step_kept}
 use Rattle.flow_solver.proofs.CarryLemmas.{balance_put}
 use Rattle.flow_solver.proofs.HeldTables.{held_put}
@@ -34,7 +33,7 @@ invariant_of-self c =
       fit = fit_again t.graph c.push_arc.new.self t.flow c.push.new.self t.potentials.table t.potentials.table t.cut t.cut t.scratch _ inv.fit
           (ap (λ (K : Instance). K.nodes) c.push_arc.ensures.net) (ap (λ (K : Instance). K.room) c.push_arc.ensures.net) c.push_arc.ensures.graph
           (omega (arith, many, inv.flow_in, one_more)) (omega (arith, many_whole, inv.flow_whole, one_more))
-          c.push.ensures.room (IsWritten-same t.potentials.table) inv.idle (IsWritten-same t.cut) (ap (λ (v : ScratchView). length v.potentials) c.note_all.ensures.same ∙ inv.scratch_in);
+          c.push.ensures.room (IsWritten-same t.potentials.table) inv.idle (IsWritten-same t.cut) (ap length c.note_all.ensures.held.labels ∙ inv.scratch_in);
       balance_is = balance;
       told = λ none. cc;
       held = held_put t.graph.rows t.flow.whole t.scratch.tree c.note_all.new.self.tree c.note_all.ensures.held inv.held c.push_arc.new.self.rows c.push.new.self.whole (length c.rows-added.result.now) c.args.row c.args.flow c.push_arc.ensures.rows (rw flow at c.push.ensures.whole) inv.flow_whole added c.note_all.ensures.noted;

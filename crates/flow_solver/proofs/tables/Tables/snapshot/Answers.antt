@@ -4,7 +4,6 @@ use Rattle.std.proofs.lemmas.Int.{to_z-of_z}
 use Rattle.dimacs_text.specs.declared.problem.ArcRow.{ArcRow}
 use Rattle.flow_solver.specs.Balance.{IsWrappedCost}
 use Rattle.augmentation.specs.Nodes.{IsIdleEntry}
-use Rattle.augmentation.specs.ScratchView.{ScratchView}
 use Rattle.augmentation.proofs.NearLemmas.{step_kept}
 use Rattle.flow_solver.proofs.CarryLemmas.{balance_kept}
 use Rattle.flow_solver.proofs.HeldTables.{held_kept}
@@ -27,7 +26,7 @@ invariant_of-self c =
         idle = subst IsIdleEntry (sym c.snapshot-2.ensures.entries) inv.idle;
         kept_idle = subst IsIdleEntry (sym c.snapshot-2.ensures.kept) inv.idle;
         cut_in = record { entries_in = rw c.snapshot-3.ensures.entries inv.cut_in.entries_in; kept_in = rw c.snapshot-3.ensures.kept inv.cut_in.entries_in };
-        scratch_in = ap (λ (v : ScratchView). length v.potentials) c.note_all.ensures.same ∙ inv.scratch_in;
+        scratch_in = ap length c.note_all.ensures.held.labels ∙ inv.scratch_in;
       };
       balance_is = balance_kept t.graph.net t.graph.rows t.flow c.snapshot.new.self t.balance _ c.snapshot.ensures.entries c.snapshot.ensures.whole refl cost inv.balance_is;
       told = λ stood. rw (c.snapshot-2.ensures.entries, c.snapshot.ensures.entries) (inv.told stood);

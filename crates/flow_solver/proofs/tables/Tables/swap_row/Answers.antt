@@ -5,7 +5,6 @@ use Rattle.dimacs_text.specs.declared.problem.ArcRow.{ArcRow}
 use Rattle.network.specs.Instance.{Instance}
 use Rattle.flow_solver.specs.TablesView.{TablesView}
 use Rattle.residual_graph.specs.Residual.{row_at, number_at}
-use Rattle.augmentation.specs.ScratchView.{ScratchView}
 use Rattle.augmentation.proofs.NearLemmas.{step_kept}
 use Rattle.flow_solver.proofs.CarryLemmas.{balance_swapped, place_is, rows_swapped}
 use Rattle.flow_solver.proofs.HeldTables.{held_swapped}
@@ -39,7 +38,7 @@ invariant_of-self c =
     inv.flow_in inv.flow_whole refl cost inv.balance_is in
     record {
       fit = fit_written t.graph c.set_row.new.self t.flow t.flow t.potentials.table t.potentials.table t.cut t.cut t.scratch _ inv.fit (ap (λ (K : Instance). K.nodes) net) (ap (λ (K : Instance). K.room) net) c.set_row.ensures.graph c.set_row.ensures.one_a_row
-          (IsWritten-same t.flow) (IsWritten-same t.potentials.table) inv.idle (IsWritten-same t.cut) (ap (λ (v : ScratchView). length v.potentials) c.note_all.ensures.same ∙ inv.scratch_in);
+          (IsWritten-same t.flow) (IsWritten-same t.potentials.table) inv.idle (IsWritten-same t.cut) (ap length c.note_all.ensures.held.labels ∙ inv.scratch_in);
       balance_is = balance;
       told = λ none. cc;
       held = held_swapped t.graph.rows t.flow.whole t.scratch.tree c.note_all.new.self.tree c.note_all.ensures.held inv.held c.set_row.new.self.rows place row rows_are c.note_all.ensures.noted;
