@@ -6,9 +6,9 @@ use Rattle.tracked.specs.Tracked.{TrackedView}
 use Rattle.augmentation.specs.Cut.{IsParted}
 use Rattle.augmentation.specs.ScratchView.{ScratchView}
 
--- the search that the scratch holds began at nodes in excess, and came to this node in deficit
+-- the last search began at nodes in excess, and came to this node in deficit
 abbrev pub HasFoundIn : GraphView → TrackedView ℤ → List ℤ → ScratchView → ℕ → Type 0
-HasFoundIn g flow e s target = HasFound g.rows flow.entries s.tree.labels e s.predecessors target
+HasFoundIn g flow e s target = HasFound g.rows flow.entries s.tree.labels e s.tree.predecessors target
 
 -- it did, or no node in excess reaches a node in deficit
 abbrev pub IsFoundOrParted : GraphView → TrackedView ℤ → List ℤ → ScratchView → Option ℕ → Type 0

@@ -1,12 +1,13 @@
 //! Pushes to the nodes in deficit of a forest of arcs that cost nothing.
 
-ghost use Rattle.std.specs.Prelude.{◌≡◌, ◌<◌, ◌<ℤ◌, IsTrue, length, pos};
+ghost use Rattle.std.specs.Prelude.{◌<◌, ◌<ℤ◌, IsTrue, length, pos};
 ghost use Rattle.residual_graph.specs.Residual.{number_at};
 ghost use Rattle.augmentation.specs.Found.{HasFoundIn};
 ghost use Rattle.augmentation.specs.Pseudoflow.{IsCertifiedIn};
 ghost use Rattle.augmentation.specs.Push.{one_if};
 ghost use Rattle.augmentation.specs.Pushes.{HavePushed};
-ghost use Rattle.shortest_paths.specs.Search.{IsForest, IsReached};
+ghost use Rattle.shortest_paths.specs.Search.{IsReached};
+ghost use Rattle.shortest_paths.specs.Tree.{IsForestOf};
 
 use crate::augment::{Path, augment};
 use crate::excess::Excess;
@@ -22,12 +23,12 @@ pub(crate) fn push_to_all(
     scratch: &mut Scratch,
 ) -> u64
     requires state { IsCertifiedIn graph.now flow.old excess.old scratch.old }
-    requires forest { IsForest graph.now.rows scratch.old.tree.labels scratch.old.predecessors }
+    requires forest { IsForestOf graph.now.rows scratch.old.tree }
     ensures pushed { HavePushed graph.now result
         flow.old flow.new excess.old excess.new scratch.new }
 {
     let mut pushes = 0;
-    for target in 0..scratch.predecessors.len() {
+    for target in 0..scratch.labels().len() {
         pushes += push_all_to(graph, flow, excess, scratch, target);
     }
     pushes
@@ -42,12 +43,11 @@ fn push_all_to(
     target: usize,
 ) -> u64
     requires state { IsCertifiedIn graph.now flow.old excess.old scratch.old }
-    requires forest { IsForest graph.now.rows scratch.old.tree.labels scratch.old.predecessors }
-    requires target { target < length scratch.old.predecessors }
+    requires forest { IsForestOf graph.now.rows scratch.old.tree }
+    requires target { target < length scratch.old.tree.labels }
     ensures pushed { HavePushed graph.now result
         flow.old flow.new excess.old excess.new scratch.new }
-    ensures forest { IsForest graph.now.rows scratch.new.tree.labels scratch.new.predecessors }
-    ensures same { scratch.new ≡ record scratch.old { predecessors = scratch.new.predecessors } }
+    ensures forest { IsForestOf graph.now.rows scratch.new.tree }
 {
     let mut pushes = 0;
     while push_once(graph, flow, excess, scratch, target) {
@@ -65,17 +65,16 @@ fn push_once(
     target: usize,
 ) -> bool
     requires state { IsCertifiedIn graph.now flow.old excess.old scratch.old }
-    requires forest { IsForest graph.now.rows scratch.old.tree.labels scratch.old.predecessors }
-    requires target { target < length scratch.old.predecessors }
+    requires forest { IsForestOf graph.now.rows scratch.old.tree }
+    requires target { target < length scratch.old.tree.labels }
     ensures pushed { HavePushed graph.now (one_if result)
         flow.old flow.new excess.old excess.new scratch.new }
-    ensures forest { IsForest graph.now.rows scratch.new.tree.labels scratch.new.predecessors }
-    ensures same { scratch.new ≡ record scratch.old { predecessors = scratch.new.predecessors } }
+    ensures forest { IsForestOf graph.now.rows scratch.new.tree }
 {
     if excess.entries[target] >= 0 || !scratch.find_way(graph, flow.entries(), excess, target) {
         return false;
     }
-    if scratch.predecessors[target].is_open {
+    if scratch.tree.predecessors()[target].is_open {
         return false;
     }
     push_to(graph, flow, excess, scratch, target)
@@ -90,8 +89,8 @@ pub(crate) fn push_to(
     target: usize,
 ) -> bool
     requires state { IsCertifiedIn graph.now flow.old excess.old scratch.now }
-    requires forest { IsForest graph.now.rows scratch.now.tree.labels scratch.now.predecessors }
-    requires reached { IsReached scratch.now.predecessors target }
+    requires forest { IsForestOf graph.now.rows scratch.now.tree }
+    requires reached { IsReached scratch.now.tree.predecessors target }
     requires deficit { number_at excess.old target <ℤ pos 0 }
     ensures pushed { HavePushed graph.now (one_if result)
         flow.old flow.new excess.old excess.new scratch.now }
@@ -99,7 +98,7 @@ pub(crate) fn push_to(
 {
     let path = Path {
         graph,
-        predecessors: &scratch.predecessors,
+        predecessors: scratch.tree.predecessors(),
         target,
     };
     augment(path, flow, &mut excess.entries)

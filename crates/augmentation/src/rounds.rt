@@ -13,7 +13,7 @@ ghost use Rattle.augmentation.specs.Pushes.{HavePushed};
 use crate::excess::Excess;
 use crate::potentials::write_all;
 use crate::pushes::{push_to, push_to_all};
-use crate::scratch::{Scratch, open};
+use crate::scratch::Scratch;
 use residual_graph::Graph;
 use tracked::Tracked;
 
@@ -78,18 +78,8 @@ fn search_on(
         return None;
     }
     scratch.bring_in_range(graph, flow.entries());
-    open(
-        &mut scratch.predecessors,
-        &mut scratch.queue,
-        scratch.tree.labels().len(),
-    );
-    scratch.tree.search_from_excess(
-        graph,
-        flow.entries(),
-        excess.entries(),
-        &mut scratch.predecessors,
-        &mut scratch.queue,
-    )
+    scratch.queue.open(scratch.tree.labels().len());
+    scratch.tree.search_from_excess(graph, flow.entries(), excess.entries(), &mut scratch.queue)
 }
 
 /// Pushes to the nodes in deficit to which a search came, to this one first; where these pushes were few, looks for other

@@ -1,13 +1,12 @@
 //! The tables that searches write in.
 
-ghost use Rattle.std.specs.Prelude.{◌≡◌, ◌<◌, ◌≤◌, ◌⊎◌, IfOk, IsTrue, length, true, vec_capacity};
-ghost use Rattle.containers.specs.Queue.{HasRoomFor};
+ghost use Rattle.std.specs.Prelude.{◌≡◌, ◌<◌, ◌≤◌, IfOk, IsTrue, length, true};
 ghost use Rattle.residual_graph.specs.Graph.{HasEntries};
 ghost use Rattle.residual_graph.specs.Limits.{row_limit};
 ghost use Rattle.residual_graph.specs.Residual.{IsPseudoflow, IsReducedCostOptimal};
 ghost use Rattle.residual_graph.specs.declared.side.Side.TheVariants.{Ahead};
-ghost use Rattle.shortest_paths.specs.Search.{IsForest, IsSearch};
-ghost use Rattle.shortest_paths.specs.Tree.{AreArcsNoted, IsForgotten, IsMarkedToo, StaysHeld};
+ghost use Rattle.shortest_paths.specs.Search.{IsSearch};
+ghost use Rattle.shortest_paths.specs.Tree.{AreArcsNoted, IsForestOf, IsForgotten, IsMarkedToo, StaysHeld};
 ghost use Rattle.augmentation.specs.Certificate.{AreInRange};
 ghost use Rattle.augmentation.specs.Cut.{IsParted, AreOnSide};
 ghost use Rattle.augmentation.specs.Settle.{AreShortest};
@@ -20,7 +19,7 @@ use crate::trails::{Ground, Trails, find_way};
 use containers::{Queue, both};
 use proposals::Wanted;
 use residual_graph::{Graph, Side};
-use shortest_paths::{Predecessor, Tree, search_levels};
+use shortest_paths::Tree;
 use std::alloc::{AllocError, Global};
 use std::marker::Model;
 use tracked::Touched;
@@ -28,14 +27,13 @@ use tracked::Touched;
 /// Tables with one entry a node. Between two calls nothing is known of them but their size.
 #[derive(Drop)]
 pub struct Scratch {
-    /// How the last search of the finish came to each node. These tables are opened when it searches first: until then
+    /// The nodes to which a search of the finish may come next. These tables are opened when it searches first: until then
     /// their room is not touched.
-    pub(crate) predecessors: Vec<Predecessor>,
-    /// The nodes to which a search may come next.
     pub(crate) queue: Queue,
-    /// What walks back along these paths remember.
+    /// What walks back along the paths of a search remember.
     pub(crate) trails: Trails,
-    /// The labels that were tested last, and what changed since; in the finish, the potentials with which it searches.
+    /// The labels that were tested last, and what changed since; in the finish the potentials with which it searches, and
+    /// how its last search came to each node.
     pub(crate) tree: Tree,
     /// The nodes of a side, while a cut is looked for, and the arcs over which nodes were marked last.
     pub(crate) marked: Touched,
@@ -51,29 +49,11 @@ impl Model for Scratch {
     ghost use Rattle.augmentation.specs.Scratch.{IsScratch};
 
     ghost view = { λ s. record {
-      predecessors = s.predecessors.items;
       marks = s.marked;
       tree = s.tree;
     } };
 
     ghost invariant = { IsScratch };
-}
-
-/// Makes tables of so many nodes in the room that there is, unless they are as long.
-pub(crate) fn open(predecessors: &mut Vec<Predecessor>, queue: &mut Queue, nodes: usize)
-    requires predecessors { (length predecessors.old.items ≡ nodes)
-        ⊎ (nodes ≤ vec_capacity predecessors.old) }
-    requires queue { HasRoomFor queue.old nodes }
-    ensures predecessors { length predecessors.new.items ≡ nodes }
-    ensures queue { length queue.new.entries ≡ nodes }
-{
-    queue.open(nodes);
-    if predecessors.len() == nodes {
-        return;
-    }
-    let Ok(()) = predecessors.resize(nodes, Predecessor::open()) else {
-        unreachable!()
-    };
 }
 
 impl Scratch {
@@ -87,19 +67,17 @@ impl Scratch {
         ensures lost { IfOk result (λ s. s.tree.is_lost ≡ true) }
         ensures apart { IfOk result (λ s. s.tree.are_apart ≡ true) }
     {
-        let predecessors = Vec::with_capacity(alloc, entries as usize);
         let queue = Queue::new(alloc, entries);
         let trails = Trails::new(alloc, entries as usize);
         let tree = Tree::new(alloc, entries as usize, arcs);
         let marked = Touched::new(alloc, entries as usize);
         let hops = Vec::with_capacity(alloc, entries as usize);
         let attempt = Attempt::new(alloc, entries as usize, arcs);
-        let (((predecessors, trails), queue), ((marked, hops), (tree, attempt))) = both(
-            both(both(predecessors, trails), queue),
+        let ((queue, trails), ((marked, hops), (tree, attempt))) = both(
+            both(queue, trails),
             both(both(marked, hops), both(tree, attempt)),
         )?;
         Ok(Scratch {
-            predecessors,
             queue,
             trails,
             tree,
@@ -213,26 +191,17 @@ impl Scratch {
     /// Searches breadth first from the nodes in excess over residual arcs that cost nothing, and says whether it came to a
     /// node in deficit.
     pub(crate) fn search_levels(&mut self, graph: &Graph, flow: &[i64], excess: &Excess) -> bool
-        requires graph { HasEntries (length self.old.tree.labels) graph.now }
         requires certified { IsReducedCostOptimal graph.now.rows flow.now self.old.tree.labels }
         requires excess_in { length excess.now ≡ length self.old.tree.labels }
-        ensures same { self.new ≡ record self.old { predecessors = self.new.predecessors } }
-        ensures paths { IsSearch graph.now.rows flow.now self.old.tree.labels
-            self.new.predecessors }
+        ensures same { self.new ≡ record self.old {
+          tree = record self.old.tree { predecessors = self.new.tree.predecessors };
+        } }
+        ensures paths { IsSearch graph.now.rows flow.now
+            self.new.tree.labels self.new.tree.predecessors }
     {
-        open(
-            &mut self.predecessors,
-            &mut self.queue,
-            self.tree.labels().len(),
-        );
-        search_levels(
-            graph,
-            flow,
-            excess.entries(),
-            self.tree.labels(),
-            &mut self.predecessors,
-            &mut self.queue,
-        )
+        self.queue.open(self.tree.labels().len());
+        self.tree
+            .search_levels(graph, flow, excess.entries(), &mut self.queue)
     }
 
     /// Walks back from a node to one in excess, by hops with room. Says whether it came there.
@@ -245,17 +214,18 @@ impl Scratch {
     ) -> bool
         requires certified { IsReducedCostOptimal graph.now.rows flow.now self.old.tree.labels }
         requires excess_in { length excess.now ≡ length self.old.tree.labels }
-        requires forest { IsForest graph.now.rows self.old.tree.labels self.old.predecessors }
-        ensures same { self.new ≡ record self.old { predecessors = self.new.predecessors } }
-        ensures forest { IsForest graph.now.rows self.old.tree.labels self.new.predecessors }
+        requires forest { IsForestOf graph.now.rows self.old.tree }
+        ensures same { self.new ≡ record self.old {
+          tree = record self.old.tree { predecessors = self.new.tree.predecessors };
+        } }
+        ensures forest { IsForestOf graph.now.rows self.new.tree }
     {
         let ground = Ground {
             graph,
             flow,
             excess: excess.entries(),
-            potentials: self.tree.labels(),
         };
-        find_way(ground, &mut self.predecessors, &mut self.trails, target)
+        find_way(ground, &mut self.tree, &mut self.trails, target)
     }
 
     /// Makes labels that certify a flow the greatest potentials that do, by a search from all nodes: so seldom that no
@@ -267,13 +237,8 @@ impl Scratch {
         ensures forgotten { IsForgotten self.new.tree }
         ensures shortest { AreShortest graph.now.rows flow.now self.new.tree.labels }
     {
-        open(
-            &mut self.predecessors,
-            &mut self.queue,
-            self.tree.labels().len(),
-        );
-        self.tree
-            .raise(graph, flow, &mut self.predecessors, &mut self.queue);
+        self.queue.open(self.tree.labels().len());
+        self.tree.raise(graph, flow, &mut self.queue);
     }
 
     /// Makes them so where one of them left the range with which a search begins.

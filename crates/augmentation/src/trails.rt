@@ -3,11 +3,12 @@
 //!
 //! Proved is that each call returns, that no index leaves its range, and that the forest stays one.
 
-ghost use Rattle.shortest_paths.specs.Search.{IsForest};
+ghost use Rattle.std.specs.Prelude.{◌≡◌};
+ghost use Rattle.shortest_paths.specs.Tree.{IsForestOf};
 ghost use Rattle.augmentation.specs.Trails.{IsGround};
 
 use residual_graph::Graph;
-use shortest_paths::{Predecessor, hang_on};
+use shortest_paths::Tree;
 use std::alloc::{AllocError, Global};
 
 /// The most steps of a walk: no bound in practice.
@@ -143,7 +144,6 @@ pub(crate) struct Ground<'a> {
     pub graph: &'a Graph,
     pub flow: &'a [i64],
     pub excess: &'a [i64],
-    pub potentials: &'a [i64],
 }
 
 /// What comes of a step of a walk.
@@ -158,19 +158,15 @@ enum Advance {
 }
 
 /// Walks back from a node to one in excess, by hops with room. Says whether it came there.
-pub(crate) fn find_way(
-    on: Ground<'_>,
-    predecessors: &mut [Predecessor],
-    trails: &mut Trails,
-    target: usize,
-) -> bool
-    requires ground { IsGround on }
-    requires forest { IsForest on.graph.now.rows on.potentials.now predecessors.old }
-    ensures forest { IsForest on.entry.graph.now.rows on.entry.potentials.now predecessors.new }
+pub(crate) fn find_way(on: Ground<'_>, tree: &mut Tree, trails: &mut Trails, target: usize) -> bool
+    requires ground { IsGround on tree.old.labels }
+    requires forest { IsForestOf on.graph.now.rows tree.old }
+    ensures same { tree.new ≡ record tree.old { predecessors = tree.new.predecessors } }
+    ensures forest { IsForestOf on.entry.graph.now.rows tree.new }
 {
     let mut node = target;
     for _ in 0..MOST_STEPS {
-        match step_back(on, predecessors, trails, node) {
+        match step_back(on, tree, trails, node) {
             Advance::Arrived => return true,
             Advance::To(next) => node = next,
             Advance::Closed => {
@@ -185,27 +181,24 @@ pub(crate) fn find_way(
 }
 
 /// A step of a walk back from a node.
-fn step_back(
-    on: Ground<'_>,
-    predecessors: &mut [Predecessor],
-    trails: &mut Trails,
-    node: usize,
-) -> Advance
-    requires ground { IsGround on }
-    requires forest { IsForest on.graph.now.rows on.potentials.now predecessors.old }
-    ensures forest { IsForest on.entry.graph.now.rows on.entry.potentials.now predecessors.new }
+fn step_back(on: Ground<'_>, tree: &mut Tree, trails: &mut Trails, node: usize) -> Advance
+    requires ground { IsGround on tree.old.labels }
+    requires forest { IsForestOf on.graph.now.rows tree.old }
+    ensures same { tree.new ≡ record tree.old { predecessors = tree.new.predecessors } }
+    ensures forest { IsForestOf on.entry.graph.now.rows tree.new }
 {
-    if node >= predecessors.len() || trails.is_closed(node) {
+    if node >= tree.labels().len() || trails.is_closed(node) {
         return Advance::Closed;
     }
-    if predecessors[node].rank == 0 {
+    let predecessor = tree.predecessors()[node];
+    if predecessor.rank == 0 {
         if on.excess[node] > 0 {
             return Advance::Arrived;
         }
         trails.close(node);
         return Advance::Closed;
     }
-    let hop = predecessors[node].arc();
+    let hop = predecessor.arc();
     if (hop.arc as usize) < on.graph.rows().len() && on.graph.has_room(on.flow, hop) {
         let start = on.graph.start(hop.arc as usize, hop.way);
         if !trails.is_closed(start) {
@@ -218,6 +211,6 @@ fn step_back(
         return Advance::Closed;
     };
     // The other end of an arc has the number beside it.
-    hang_on(on.graph, on.potentials, predecessors, node, end ^ 1);
+    tree.hang_on(on.graph, node, end ^ 1);
     Advance::To(node)
 }

@@ -3,6 +3,7 @@ use Rattle.std.specs.Prelude.{◌≡◌, ◌≢◌, ℕ, ◌<◌, ℤ, Any, Bool
 use Rattle.dimacs_text.specs.declared.problem.ArcRow.{ArcRow}
 use Rattle.residual_graph.specs.Residual.{row_at}
 use Rattle.shortest_paths.specs.declared.residual_network.Residual.{Residual}
+use Rattle.shortest_paths.specs.Search.{IsForest}
 use Rattle.tracked.specs.Marks.{in_set}
 use Rattle.tracked.specs.Touched.{AgreeAt}
 use Rattle.shortest_paths.specs.declared.predecessor.Predecessor.{Predecessor}
@@ -44,6 +45,10 @@ pub record IsRelabelled (t u : TreeView) : Type 0 where
 pub record IsForgotten (t : TreeView) : Type 0 where
   pub lost : t.is_lost ≡ true
   pub apart : t.are_apart ≡ true
+
+-- the predecessors are a forest of arcs that cost nothing under the labels
+abbrev pub IsForestOf : List ArcRow → TreeView → Type 0
+IsForestOf arcs t = IsForest arcs t.labels t.predecessors
 
 -- potentials are the labels but at marked nodes, unless any may be another
 abbrev pub AreInStep : TreeView → List ℤ → Type 0

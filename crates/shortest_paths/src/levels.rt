@@ -64,7 +64,7 @@ fn leads_to(on: Progress<'_>, node: usize, end: u32) -> bool
 
 /// Searches breadth first from the nodes in excess over residual arcs that cost nothing, and says whether it came to a
 /// node in deficit.
-pub fn search_levels(
+pub(crate) fn search_levels(
     graph: &Graph,
     flow: &[i64],
     excess: &[i64],
@@ -118,7 +118,7 @@ pub fn search_levels(
 
 /// Hangs a node of a forest on the node from which the residual arc leads that leaves at an end, where that costs nothing
 /// and the rank of the node stays; says whether it does.
-pub fn hang_on(
+pub(crate) fn hang_on(
     graph: &Graph,
     potentials: &[i64],
     predecessors: &mut [Predecessor],

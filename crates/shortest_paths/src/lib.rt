@@ -15,7 +15,6 @@ mod search;
 mod step;
 mod tree;
 
-pub use levels::{hang_on, search_levels};
 pub use predecessor::{Predecessor, are_traced, is_traced, reduced_along};
 pub use residual_network::Residual;
 pub use tree::Tree;

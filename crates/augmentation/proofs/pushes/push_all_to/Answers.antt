@@ -1,14 +1,13 @@
-use Rattle.std.proofs.Common.{◌≡◌, ◌+◌, ◌∙◌, ◌^◌, ◌<◌, ℕ, ap, arith, refl, rules, subst}
+use Rattle.std.proofs.Common.{◌≡◌, ◌+◌, ◌^◌, ◌<◌, ℕ, arith, rules, subst}
 use Rattle.std.specs.Prelude.{Bool, true}
 use Rattle.augmentation.specs.Push.{one_if}
 use Rattle.augmentation.specs.Pushes.{HavePushed}
-use Rattle.augmentation.specs.ScratchView.{ScratchView}
 use Rattle.augmentation.proofs.SettleLemmas.{HavePushed-more, HavePushed-none, count_fits}
 use Rattle.augmentation.proofs.pushes.push_all_to.Goals as goal
 use Rattle.augmentation.proofs.pushes.push_all_to.Goals.{After-push_once}
 
 pub loop-pushes-init : goal.loop-pushes-init
-loop-pushes-init c = record { pushed = HavePushed-none c.requires.state; forest = c.requires.forest; same = refl }
+loop-pushes-init c = record { pushed = HavePushed-none c.requires.state; forest = c.requires.forest }
 
 -- with one push more, or none
 counted : (c : After-push_once) (b : Bool) → c.push_once.result ≡ b → HavePushed c.args.graph.now (c.loop-pushes.pushes + one_if b) c.args.flow.now c.push_once.new.flow c.args.excess.now c.push_once.new.excess c.push_once.new.scratch
@@ -25,12 +24,7 @@ overflow_add-pushes c =
 pub loop-pushes-preserved : goal.loop-pushes-preserved
 loop-pushes-preserved c =
     let s = (goal.at.loop-pushes-preserved c).After-push_once in
-    let call = c.push_once.ensures in
-    record {
-      pushed = counted s true c.loop-pushes-test.true;
-      forest = call.forest;
-      same = call.same ∙ ap (λ (v : ScratchView). record v { predecessors = c.push_once.new.scratch.predecessors }) c.loop-pushes.invariant.same;
-    }
+    record { pushed = counted s true c.loop-pushes-test.true; forest = c.push_once.ensures.forest }
 
 pub returns-clause-pushed : goal.returns-clause-pushed
 returns-clause-pushed c =

@@ -1,5 +1,4 @@
-use Rattle.std.proofs.Common.{◌≡◌}
-use Rattle.shortest_paths.specs.Search.{IsForest}
+use Rattle.shortest_paths.specs.Tree.{IsForestOf}
 use Rattle.augmentation.specs.Push.{left}
 use Rattle.augmentation.specs.Pushes.{HavePushed}
 use Rattle.augmentation.proofs.pushes.push_all_to.Given as goal
@@ -7,8 +6,7 @@ use Rattle.augmentation.proofs.pushes.push_all_to.Given as goal
 abbrev pub invariant-loop-pushes : goal.invariant-loop-pushes
 invariant-loop-pushes l = record {
   pushed : HavePushed l.graph l.pushes l.initial.flow l.flow l.initial.excess l.excess l.scratch;
-  forest : IsForest l.graph.rows l.scratch.tree.labels l.scratch.predecessors;
-  same : l.scratch ≡ record l.initial.scratch { predecessors = l.scratch.predecessors };
+  forest : IsForestOf l.graph.rows l.scratch.tree;
 }
 
 abbrev pub decreases-loop-pushes : goal.decreases-loop-pushes

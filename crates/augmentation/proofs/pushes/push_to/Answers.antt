@@ -1,4 +1,4 @@
-use Rattle.std.proofs.Common.{◌≡◌, ◌∙◌, ℤ, List, length, refl, sym, ap, subst, pos}
+use Rattle.std.proofs.Common.{◌≡◌, ◌∙◌, ℤ, List, length, sym, ap, subst, pos}
 use Rattle.std.specs.Prelude.{◌<ℤ◌}
 use Rattle.std.specs.Vec.{with_items}
 use Rattle.std.proofs.lemmas.List.{with_items_is}
@@ -12,8 +12,8 @@ use Rattle.augmentation.proofs.SettleLemmas.{IsPushedOn, pushed_on, root_in_exce
 use Rattle.augmentation.proofs.pushes.push_to.Goals as goal
 use Rattle.augmentation.proofs.pushes.push_to.Goals.{After-augment}
 
-tables : (c : After-augment) → c.deref.result.now ≡ c.args.scratch.now.predecessors
-tables c = c.deref.ensures.value ∙ ap (λ (v : ScratchView). v.predecessors) c.scratch.view_is
+tables : (c : After-augment) → c.predecessors.result.now ≡ c.args.scratch.now.tree.predecessors
+tables c = c.predecessors.ensures.value ∙ ap (λ (v : ScratchView). v.tree.predecessors) c.scratch.view_is
 
 excesses : (c : After-augment) → c.deref_mut.result.now ≡ c.args.excess.now
 excesses c = c.deref_mut.ensures.value ∙ c.excess.view_is
@@ -25,9 +25,9 @@ is_pushed c =
     let t = c.args.target in
     let y = c.augment.new.flow.entries in
     let f = c.augment.new.excess in
-    pushed_on c.args.graph.now x c.args.scratch.now.tree.labels c.args.excess.now c.args.scratch.now.predecessors t y f c.augment.result c.requires.forest c.requires.reached c.requires.state.state
+    pushed_on c.args.graph.now x c.args.scratch.now.tree.labels c.args.excess.now c.args.scratch.now.tree.predecessors t y f c.augment.result c.requires.forest c.requires.reached c.requires.state.state
     (λ yes. subst (λ (l : List Predecessor). IsAugmented rows l t x c.args.excess.now y f) (tables c)
-    (subst (λ (g : List ℤ). IsAugmented rows c.deref.result.now t x g y f) (excesses c) (c.augment.ensures.pushed yes)))
+    (subst (λ (g : List ℤ). IsAugmented rows c.predecessors.result.now t x g y f) (excesses c) (c.augment.ensures.pushed yes)))
     (λ no. (c.augment.ensures.same_flow no, c.augment.ensures.same_excess no ∙ excesses c))
 
 excess_is : (c : After-augment) → (with_items c.excess.inside.entries c.augment.new.excess).items ≡ c.augment.new.excess
@@ -63,7 +63,7 @@ returns-clause-some c = λ found.
     (let a = (goal.at.returns-clause-some c).After-augment in
     let rows = c.args.graph.now.rows in
     let x = c.args.flow.now.entries in
-    let s = c.args.scratch.now.predecessors in
+    let s = c.args.scratch.now.tree.predecessors in
     c.augment.ensures.some (record {
       paths = subst (λ (l : List Predecessor). HavePaths rows x l) (sym (tables a)) found.search.paths;
       gives = subst (λ (l : List Predecessor). pos 0 <ℤ number_at c.deref_mut.result.now (root_to rows l c.args.target)) (sym (tables a))

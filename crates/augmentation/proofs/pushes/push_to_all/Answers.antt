@@ -1,10 +1,9 @@
-use Rattle.std.proofs.Common.{◌+◌, ◌∙◌, ◌^◌, ◌<◌, ap, arith, refl, rules}
-use Rattle.augmentation.specs.ScratchView.{ScratchView}
+use Rattle.std.proofs.Common.{◌+◌, ◌^◌, ◌<◌, arith, rules}
 use Rattle.augmentation.proofs.SettleLemmas.{HavePushed-more, HavePushed-none, count_fits}
 use Rattle.augmentation.proofs.pushes.push_to_all.Goals as goal
 
 pub loop-target-init : goal.loop-target-init
-loop-target-init c = record { pushed = HavePushed-none c.requires.state; forest = c.requires.forest; same = refl }
+loop-target-init c = record { pushed = HavePushed-none c.requires.state; forest = c.requires.forest }
 
 pub overflow_add-pushes : goal.overflow_add-pushes
 overflow_add-pushes c =
@@ -14,10 +13,5 @@ overflow_add-pushes c =
 
 pub loop-target-preserved : goal.loop-target-preserved
 loop-target-preserved c =
-    let inv = c.loop-target.invariant in
     let call = c.push_all_to-pushes.ensures in
-    record {
-      pushed = HavePushed-more inv.pushed call.pushed;
-      forest = call.forest;
-      same = call.same ∙ ap (λ (v : ScratchView). record v { predecessors = c.push_all_to-pushes.new.scratch.predecessors }) inv.same;
-    }
+    record { pushed = HavePushed-more c.loop-target.invariant.pushed call.pushed; forest = call.forest }

@@ -1,4 +1,4 @@
-use Rattle.std.proofs.Common.{◌<◌, ◌∙◌, ◌+◌, ◌^◌, ℤ, List, ap, arith, rules, sym, subst}
+use Rattle.std.proofs.Common.{◌<◌, ◌∙◌, ◌+◌, ◌^◌, ℤ, List, arith, rules, sym, subst}
 use Rattle.std.proofs.lemmas.Bool.{false≢true}
 use Rattle.augmentation.specs.Pseudoflow.{IsCertifiedPseudoflow}
 use Rattle.augmentation.proofs.SettleLemmas.{ArePushes-more, HavePushed-more, HavePushed-none, count_fits}
