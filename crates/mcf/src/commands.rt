@@ -1,6 +1,6 @@
 //! The commands of the program, as `clap` builds them.
 ghost use Rattle.std.specs.Prelude.{◌≡◌, IfOk, codes, false};
-ghost use Rattle.clap.specs.Words.{app_of, rule_of};
+ghost use Rattle.clap.specs.Words.{App, app_of, new_app, rule_of, with_rule, with_subcommand};
 ghost use Rattle.clap.specs.declared.builder.command.Command.TheViews.{out-Command};
 ghost use Rattle.mcf.specs.Tasks as tasks;
 ghost use Rattle.mcf.specs.Tasks.{extra_rule, file_rule, needed_rule, proof_rule};
@@ -81,16 +81,35 @@ fn answer<'a>(alloc: Global) -> Arg<'a>
     )
 }
 
+/// A command of this name with two arguments.
+fn command<'a>(
+    alloc: Global,
+    name: &'a str,
+    about: &'a str,
+    after_help: &'a str,
+    first: Arg<'a>,
+    second: Arg<'a>,
+) -> Result<Command<'a>, AllocError>
+    requires first { first.global ≡ false }
+    requires second { second.global ≡ false }
+    ensures app { IfOk result (λ c. app_of c ≡ with_rule
+        (with_rule (new_app name.entry.now) (rule_of first.entry)) (rule_of second.entry)) }
+    ensures local { IfOk result (λ c. (out-Command c).has_globals ≡ false) }
+{
+    Command::new(alloc, name)
+        .about(about)
+        .after_help(after_help)
+        .arg(first)?
+        .arg(second)
+}
+
 /// `solve [--proof] [FILE]`
 fn solve_command<'a>(alloc: Global) -> Result<Command<'a>, AllocError>
     ensures app { IfOk result (λ c. app_of c ≡ tasks.solve_command) }
     ensures local { IfOk result (λ c. (out-Command c).has_globals ≡ false) }
 {
-    Command::new(alloc, "solve")
-        .about(help::SOLVE)
-        .after_help(help::AFTER_SOLVE)
-        .arg(proof(alloc))?
-        .arg(file(alloc))
+    let (about, after_help) = (help::SOLVE, help::AFTER_SOLVE);
+    command(alloc, "solve", about, after_help, proof(alloc), file(alloc))
 }
 
 /// `session [--extra N] PROBLEM`
@@ -98,11 +117,15 @@ fn session_command<'a>(alloc: Global) -> Result<Command<'a>, AllocError>
     ensures app { IfOk result (λ c. app_of c ≡ tasks.session_command) }
     ensures local { IfOk result (λ c. (out-Command c).has_globals ≡ false) }
 {
-    Command::new(alloc, "session")
-        .about(help::SESSION)
-        .after_help(help::AFTER_SESSION)
-        .arg(extra(alloc))?
-        .arg(problem(alloc))
+    let (about, after_help) = (help::SESSION, help::AFTER_SESSION);
+    command(
+        alloc,
+        "session",
+        about,
+        after_help,
+        extra(alloc),
+        problem(alloc),
+    )
 }
 
 /// `check PROBLEM ANSWER`
@@ -110,11 +133,15 @@ fn check_command<'a>(alloc: Global) -> Result<Command<'a>, AllocError>
     ensures app { IfOk result (λ c. app_of c ≡ tasks.check_command) }
     ensures local { IfOk result (λ c. (out-Command c).has_globals ≡ false) }
 {
-    Command::new(alloc, "check")
-        .about(help::CHECK)
-        .after_help(help::AFTER_CHECK)
-        .arg(problem(alloc))?
-        .arg(answer(alloc))
+    let (about, after_help) = (help::CHECK, help::AFTER_CHECK);
+    command(
+        alloc,
+        "check",
+        about,
+        after_help,
+        problem(alloc),
+        answer(alloc),
+    )
 }
 
 /// The program before its commands.
@@ -133,8 +160,23 @@ fn bare_program<'a>(alloc: Global) -> Command<'a>
 pub fn program<'a>(alloc: Global) -> Result<Command<'a>, AllocError>
     ensures app { IfOk result (λ c. app_of c ≡ tasks.program) }
 {
-    bare_program(alloc)
-        .subcommand(solve_command(alloc)?)?
-        .subcommand(session_command(alloc)?)?
-        .subcommand(check_command(alloc)?)
+    let program = with_command(bare_program(alloc), solve_command(alloc))?;
+    let program = with_command(program, session_command(alloc))?;
+    with_command(program, check_command(alloc))
+}
+
+/// A program with one command more.
+fn with_command<'a>(
+    program: Command<'a>,
+    command: Result<Command<'a>, AllocError>,
+) -> Result<Command<'a>, AllocError>
+    ensures { (app sub : App) → app_of program.entry ≡ app
+        → IfOk command.entry (λ c. app_of c ≡ sub)
+        → IfOk command.entry (λ c. (out-Command c).has_globals ≡ false)
+        → IfOk result (λ more. app_of more ≡ with_subcommand app sub.top) }
+{
+    match command {
+        Ok(command) => program.subcommand(command),
+        Err(refused) => Err(refused),
+    }
 }

@@ -1,16 +1,8 @@
-use Rattle.std.proofs.Common.{ap₂, ◌∙◌, ◌≡◌, ◌||◌, codes, false}
+use Rattle.std.proofs.Common.{ap₂, ◌∙◌, codes}
 use Rattle.std.proofs.lemmas.Result.{IfOk-weaker}
-use Rattle.clap.specs.Words.{app_of, with_rule, new_app}
-use Rattle.clap.specs.declared.builder.command.Command.TheViews.{out-Command}
+use Rattle.clap.specs.Words.{new_app, with_rule}
 use Rattle.mcf.proofs.commands.check_command.Goals as goal
 
 pub returns-clause-app : goal.returns-clause-app
 returns-clause-app c =
-    let base : app_of c.after_help.result ≡ new_app (codes "check") = rw (c.after_help.ensures, c.about.ensures) c.new.ensures.app in
-    IfOk-weaker c.arg-2.result _ _ (λ r h. h.shape c.answer.ensures.local
-    ∙ ap₂ with_rule (c.in_ok-arg.ensures.shape c.problem.ensures.local ∙ ap₂ with_rule base c.problem.ensures.rule) c.answer.ensures.rule) c.arg-2.ensures
-
-pub returns-clause-local : goal.returns-clause-local
-returns-clause-local c =
-    let base : (out-Command c.after_help.result).has_globals ≡ false = rw (c.after_help.ensures, c.about.ensures) c.new.ensures.local in
-    IfOk-weaker c.arg-2.result _ _ (λ r h. h.globals ∙ ap₂ (λ x y. x || y) (c.in_ok-arg.ensures.globals ∙ ap₂ (λ x y. x || y) base c.problem.ensures.local) c.answer.ensures.local) c.arg-2.ensures
+    IfOk-weaker c.command.result _ _ (λ r h. h ∙ ap₂ (λ x y. with_rule (with_rule (new_app (codes "check")) x) y) c.problem.ensures.rule c.answer.ensures.rule) c.command.ensures.app

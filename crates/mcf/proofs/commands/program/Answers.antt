@@ -1,15 +1,10 @@
-use Rattle.std.proofs.Common.{◌∙◌, ap, ap₂}
-use Rattle.std.proofs.lemmas.Result.{IfOk-weaker}
-use Rattle.clap.specs.Words.{App, with_subcommand}
 use Rattle.mcf.proofs.commands.program.Goals as goal
 
 pub returns : goal.returns
 returns c =
-    let top = λ (a : App). a.top in
-    record {
-      app = IfOk-weaker c.subcommand-3.result _ _ (λ r h. h.shape c.in_ok-check_command.ensures.local
-          ∙ ap₂ with_subcommand (c.in_ok-subcommand-2.ensures.shape c.in_ok-session_command.ensures.local
-          ∙ ap₂ with_subcommand (c.in_ok-subcommand.ensures.shape c.in_ok-solve_command.ensures.local
-          ∙ ap₂ with_subcommand c.bare_program.ensures.app (ap top c.in_ok-solve_command.ensures.app))
-          (ap top c.in_ok-session_command.ensures.app)) (ap top c.in_ok-check_command.ensures.app)) c.subcommand-3.ensures;
-    }
+    let solve = c.solve_command.ensures in
+    let session = c.session_command.ensures in
+    let check = c.check_command.ensures in
+    let one = c.in_ok-program.ensures _ _ c.bare_program.ensures.app solve.app solve.local in
+    let two = c.in_ok-program-2.ensures _ _ one session.app session.local in
+    record { app = c.with_command-3.ensures _ _ two check.app check.local }
