@@ -1,0 +1,4 @@
+pub mod MatchLemmas
+pub mod RowLemmas
+pub mod TakenLemmas
+pub mod RefusalLemmas

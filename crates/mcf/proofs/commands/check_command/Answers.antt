@@ -1,8 +1,0 @@
-use Rattle.std.proofs.Common.{ap₂, ◌∙◌, codes}
-use Rattle.std.proofs.lemmas.Result.{IfOk-weaker}
-use Rattle.clap.specs.Words.{new_app, with_rule}
-use Rattle.mcf.proofs.commands.check_command.Goals as goal
-
-pub returns-clause-app : goal.returns-clause-app
-returns-clause-app c =
-    IfOk-weaker c.command.result _ _ (λ r h. h ∙ ap₂ (λ x y. with_rule (with_rule (new_app (codes "check")) x) y) c.problem.ensures.rule c.answer.ensures.rule) c.command.ensures.app
