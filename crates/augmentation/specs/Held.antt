@@ -102,9 +102,6 @@ pub record AreTestedThere (rows : List ArcRow) (x q : List ℤ) (t : List Predec
   pub written_hold : (k : ℕ) → k < length rows → in_set written k ≡ true → HoldsAlong rows x q t k
   pub touched_hold : (v : ℕ) → v < length q → in_set touched v ≡ true → HoldsAt rows x q t v
 
-abbrev pub AreTestedOn : Labelled → List Bool → List Bool → List Bool → List Bool → Type 0
-AreTestedOn on noted beside written touched = AreTestedThere on.graph.now.rows on.flow.now on.labels.now on.predecessors.now noted beside written touched
-
 -- an arc has the same row and the same flow
 pub record IsSameArc (rows : List ArcRow) (w : List ℤ) (rows' : List ArcRow) (w' : List ℤ) (k : ℕ) : Type 0 where
   pub in_both : (k < length rows) × (k < length rows')

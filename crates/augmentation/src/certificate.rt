@@ -2,7 +2,7 @@
 
 ghost use Rattle.std.specs.Prelude.{◌↔◌, ◌<◌, IsTrue, length};
 ghost use Rattle.residual_graph.specs.Residual.{IsPseudoflow, IsRow, IsWithinRow};
-ghost use Rattle.augmentation.specs.Certificate.{AreCertifying, AreInRange, IsNoneBelowAt, KeepsArc, KeepsRow};
+ghost use Rattle.augmentation.specs.Certificate.{AreCertifying, AreInRange, IsNoneBelowAt, KeepsArc};
 
 use dimacs_text::ArcRow;
 use residual_graph::{Graph, Way};
@@ -37,18 +37,7 @@ fn keeps_way(row: &ArcRow, flow: i64, potentials: &[i64], way: Way) -> bool
     reduced >= 0
 }
 
-/// Whether this is so of both residual arcs along an arc.
-fn keeps_row(row: &ArcRow, flow: i64, potentials: &[i64]) -> bool
-    requires row { IsRow (length potentials.now) row.now }
-    requires within { IsWithinRow row.now flow }
-    requires potentials { AreInRange potentials.now }
-    ensures { IsTrue result ↔ KeepsRow row.now flow potentials.now }
-{
-    keeps_way(row, flow, potentials, Way::Forward)
-        && keeps_way(row, flow, potentials, Way::Backward)
-}
-
-/// Whether this is so of the arc in a row.
+/// Whether this is so of both residual arcs along the arc in a row.
 pub(crate) fn keeps_arc(graph: &Graph, flow: &[i64], potentials: &[i64], k: usize) -> bool
     requires arc { k < length graph.now.rows }
     requires flow { IsPseudoflow (length potentials.now) graph.now.rows flow.now }
@@ -56,7 +45,8 @@ pub(crate) fn keeps_arc(graph: &Graph, flow: &[i64], potentials: &[i64], k: usiz
     ensures { IsTrue result ↔ KeepsArc graph.now.rows flow.now potentials.now k }
 {
     let row = graph.row(k);
-    keeps_row(&row, flow[k], potentials)
+    keeps_way(&row, flow[k], potentials, Way::Forward)
+        && keeps_way(&row, flow[k], potentials, Way::Backward)
 }
 
 /// Whether potentials certify a flow: each is in the range with which a run of pushes begins, and no residual arc has a

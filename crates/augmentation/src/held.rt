@@ -5,7 +5,7 @@ ghost use Rattle.std.specs.Prelude.{◌≡◌, ◌<◌, IsTrue, length};
 ghost use Rattle.residual_graph.specs.Graph.{HasEntries};
 ghost use Rattle.residual_graph.specs.Residual.{IsPseudoflow};
 ghost use Rattle.residual_graph.specs.declared.residual.Way.{Way};
-ghost use Rattle.augmentation.specs.Held.{AllMarked, AreTestedIn, AreTestedOn, AreTracedAllOn, HangsWellOn, HoldAlongAllOn, HoldAtAllOn, HoldsAlongOn, HoldsAtOn, IsHeldSince, IsInRangeAt, IsLabelling};
+ghost use Rattle.augmentation.specs.Held.{AllMarked, AreTestedIn, AreTracedAllOn, HangsWellOn, HoldAlongAllOn, HoldAtAllOn, HoldsAlongOn, HoldsAtOn, IsHeldSince, IsInRangeAt, IsLabelling};
 
 use crate::certificate::{FLOOR, certifies, keeps_arc};
 use residual_ends::ResidualEnds;
@@ -146,25 +146,8 @@ fn are_traced_at(on: Labelled<'_>, nodes: &Touched) -> bool
     true
 }
 
-/// Whether all holds along noted and written arcs, at nodes beside the noted ones, and at touched ones.
-fn hold_there(
-    on: Labelled<'_>,
-    noted: &Touched,
-    beside: &Touched,
-    written: &Touched,
-    touched: &Touched,
-) -> bool
-    requires graph { HasEntries (length on.labels.now) on.graph.now }
-    requires labelling { IsLabelling on }
-    ensures { IsTrue result → AreTestedOn on.entry noted.now beside.now written.now touched.now }
-{
-    if !hold_along_all(on, noted) || !hold_along_all(on, written) || !are_traced_at(on, beside) {
-        return false;
-    }
-    hold_at_all(on, touched)
-}
-
-/// Whether labels that are held certify the flow, and are the greatest that do.
+/// Whether labels that are held certify the flow, and are the greatest that do: looked at are noted and written arcs, nodes
+/// beside the noted ones, and touched ones.
 pub(crate) fn holds(graph: &Graph, flow: &Tracked<i64>, ends: &ResidualEnds, tree: &Tree) -> bool
     requires graph { HasEntries (length tree.now.labels) graph.now }
     requires flow { IsPseudoflow (length tree.now.labels) graph.now.rows flow.now.entries }
@@ -186,7 +169,13 @@ pub(crate) fn holds(graph: &Graph, flow: &Tracked<i64>, ends: &ResidualEnds, tre
         predecessors: tree.predecessors(),
         ends,
     };
-    hold_there(on, tree.noted(), tree.beside(), flow.written(), touched)
+    if !hold_along_all(on, tree.noted()) {
+        return false;
+    }
+    if !hold_along_all(on, flow.written()) {
+        return false;
+    }
+    are_traced_at(on, tree.beside()) && hold_at_all(on, touched)
 }
 
 /// Whether labels certify the flow, and are the greatest that do: all are looked at.

@@ -40,15 +40,6 @@ fn write_at(table: &mut Tracked<i64>, numbers: &[i64], places: &[u32])
     }
 }
 
-/// Has the next proposal look at these nodes.
-fn note_nodes(proposals: &mut Proposals, nodes: &[u32])
-    ensures { proposals.new ≡ proposals.old }
-{
-    for v in nodes {
-        proposals.note_node(*v);
-    }
-}
-
 /// Whether the labels of a tree may be other potentials at many nodes.
 fn are_many(tree: &Tree) -> bool
     ensures { OnFalse result (tree.now.are_apart ≡ false) }
@@ -62,8 +53,10 @@ pub(crate) fn note_apart(proposals: &mut Proposals, tree: &Tree)
 {
     if are_many(tree) {
         proposals.forget_nodes();
-    } else {
-        note_nodes(proposals, tree.touched().places());
+        return;
+    }
+    for v in tree.touched().places() {
+        proposals.note_node(*v);
     }
 }
 

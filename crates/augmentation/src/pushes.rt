@@ -12,6 +12,7 @@ ghost use Rattle.shortest_paths.specs.Tree.{IsForestOf};
 use crate::augment::{Path, augment};
 use crate::excess::Excess;
 use crate::scratch::Scratch;
+use crate::trails::{Ground, find_way};
 use residual_graph::Graph;
 use tracked::Tracked;
 
@@ -71,10 +72,17 @@ fn push_once(
         flow.old flow.new excess.old excess.new scratch.new }
     ensures forest { IsForestOf graph.now.rows scratch.new.tree }
 {
-    if excess.entries[target] >= 0 || !scratch.find_way(graph, flow.entries(), excess, target) {
+    if excess.entries[target] >= 0 {
         return false;
     }
-    if scratch.tree.predecessors()[target].is_open {
+    let ground = Ground {
+        graph,
+        flow: flow.entries(),
+        excess: excess.entries(),
+    };
+    if !find_way(ground, &mut scratch.tree, &mut scratch.trails, target)
+        || scratch.tree.predecessors()[target].is_open
+    {
         return false;
     }
     push_to(graph, flow, excess, scratch, target)

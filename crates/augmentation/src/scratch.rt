@@ -6,7 +6,7 @@ ghost use Rattle.residual_graph.specs.Limits.{row_limit};
 ghost use Rattle.residual_graph.specs.Residual.{IsPseudoflow, IsReducedCostOptimal};
 ghost use Rattle.residual_graph.specs.declared.side.Side.TheVariants.{Ahead};
 ghost use Rattle.shortest_paths.specs.Search.{IsSearch};
-ghost use Rattle.shortest_paths.specs.Tree.{AreArcsNoted, IsForestOf, IsForgotten, IsMarkedToo, StaysHeld};
+ghost use Rattle.shortest_paths.specs.Tree.{AreArcsNoted, IsForgotten, IsMarkedToo, StaysHeld};
 ghost use Rattle.augmentation.specs.Certificate.{AreInRange};
 ghost use Rattle.augmentation.specs.Cut.{IsParted, AreOnSide};
 ghost use Rattle.augmentation.specs.Settle.{AreShortest};
@@ -15,7 +15,7 @@ use crate::attempt::Attempt;
 use crate::certificate::are_in_range;
 use crate::excess::Excess;
 use crate::side::{OnSide, mark_side};
-use crate::trails::{Ground, Trails, find_way};
+use crate::trails::Trails;
 use containers::{Queue, both};
 use proposals::Wanted;
 use residual_graph::{Graph, Side};
@@ -202,30 +202,6 @@ impl Scratch {
         self.queue.open(self.tree.labels().len());
         self.tree
             .search_levels(graph, flow, excess.entries(), &mut self.queue)
-    }
-
-    /// Walks back from a node to one in excess, by hops with room. Says whether it came there.
-    pub(crate) fn find_way(
-        &mut self,
-        graph: &Graph,
-        flow: &[i64],
-        excess: &Excess,
-        target: usize,
-    ) -> bool
-        requires certified { IsReducedCostOptimal graph.now.rows flow.now self.old.tree.labels }
-        requires excess_in { length excess.now ≡ length self.old.tree.labels }
-        requires forest { IsForestOf graph.now.rows self.old.tree }
-        ensures same { self.new ≡ record self.old {
-          tree = record self.old.tree { predecessors = self.new.tree.predecessors };
-        } }
-        ensures forest { IsForestOf graph.now.rows self.new.tree }
-    {
-        let ground = Ground {
-            graph,
-            flow,
-            excess: excess.entries(),
-        };
-        find_way(ground, &mut self.tree, &mut self.trails, target)
     }
 
     /// Makes labels that certify a flow the greatest potentials that do, by a search from all nodes: so seldom that no

@@ -18,9 +18,9 @@ held c =
 same_labels : (c : After-touched-touched) (v : ℕ) → in_set c.touched-touched.result.now v ≡ false → number_at c.args.tree.now.labels v ≡ number_at c.requires.held.before.labels v
 same_labels c v out = (c.requires.held.moved.labels v (ap (λ (marks : List Bool). in_set marks v) (sym c.touched-touched.ensures) ∙ out)).1 (pos 0)
 
-pub hold_there-requires-clause-labelling : goal.hold_there-requires-clause-labelling
-hold_there-requires-clause-labelling c =
-    let a = (goal.at.hold_there-requires-clause-labelling c).After-touched-touched in
+pub hold_at_all-requires-clause-labelling : goal.hold_at_all-requires-clause-labelling
+hold_at_all-requires-clause-labelling c =
+    let a = (goal.at.hold_at_all-requires-clause-labelling c).After-touched-touched in
     record {
       flow = search rules;
       labels = in_range_still c.requires.held.before.labels c.labels-labels.result.now c.touched-touched.result.now (held a).in_range
@@ -28,9 +28,9 @@ hold_there-requires-clause-labelling c =
       same_length = search rules;
     }
 
-pub returns : goal.returns
-returns c = λ yes.
-    (let a = (goal.at.returns c).After-touched-touched in
+pub returns-then-are_traced_at : goal.returns-then-are_traced_at
+returns-then-are_traced_at c = λ yes.
+    (let a = (goal.at.returns-then-are_traced_at c).After-touched-touched in
     let rows = c.args.graph.now.rows in
     let x = c.args.flow.now.entries in
     let tree = c.args.tree.now in
@@ -44,7 +44,12 @@ returns c = λ yes.
     (subst (λ (t : List Predecessor). AreTestedThere rows c.entries.result.now c.labels-labels.result.now t tree.noted tree.beside c.written.result.now touched) c.predecessors.ensures.value
     (subst (λ (n : List Bool). AreTestedThere rows c.entries.result.now c.labels-labels.result.now c.predecessors.result.now n tree.beside c.written.result.now touched) c.noted.ensures
     (subst (λ (b : List Bool). AreTestedThere rows c.entries.result.now c.labels-labels.result.now c.predecessors.result.now c.noted.result.now b c.written.result.now touched) c.beside.ensures
-    (c.hold_there.ensures yes))))) in
+    (record {
+      noted_hold = c.hold_along_all.ensures c.if-not-hold_along_all.false;
+      beside_traced = c.are_traced_at.ensures c.if-are_traced_at.true;
+      written_hold = c.hold_along_all-2.ensures c.if-not-hold_along_all-2.false;
+      touched_hold = c.hold_at_all.ensures yes;
+    }))))) in
     tested_whole (length tree.labels) rows c.args.flow.now.whole x before.labels tree.labels before.predecessors tree.predecessors tree.noted tree.beside c.written.result.now touched
     c.requires.flow refl (held a) (record {
       sized = c.requires.held.sized;
