@@ -214,7 +214,7 @@ impl Scratch {
         ensures shortest { AreShortest graph.now.rows flow.now self.new.tree.labels }
     {
         self.queue.open(self.tree.labels().len());
-        self.tree.raise(graph, flow, &mut self.queue);
+        self.tree.search_labels(graph, flow, &mut self.queue);
     }
 
     /// Makes them so where one of them left the range with which a search begins.

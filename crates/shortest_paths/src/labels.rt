@@ -6,10 +6,12 @@ ghost use Rattle.residual_graph.specs.Limits.{potential_floor};
 ghost use Rattle.residual_graph.specs.Residual.{AreGreatest, ArePotentials, IsPseudoflow, IsReducedCostOptimal, number_at};
 ghost use Rattle.shortest_paths.specs.Limits.{label_floor};
 ghost use Rattle.shortest_paths.specs.Search.{AreOffered, IsSettledBy, MayCome, raised};
+ghost use Rattle.shortest_paths.specs.Tree.{IsForgotten};
 
 use crate::predecessor::Predecessor;
 use crate::progress::Progress;
 use crate::search::{come_along, offer_from, raise};
+use crate::tree::Tree;
 use containers::{Queue, Waiting};
 use residual_graph::Graph;
 
@@ -55,35 +57,35 @@ fn settle(
     predecessors[node] = Predecessor::root();
 }
 
-/// Raises potentials that certify a flow until they are the greatest that do: those of open nodes rise together until one
-/// is 0, or a residual arc from a node that is not open costs nothing.
-#[inline(never)] // a name of its own in the program: `bench/count` counts its calls
-pub(crate) fn search_labels(
-    graph: &Graph,
-    flow: &[i64],
-    potentials: &mut [i64],
-    predecessors: &mut [Predecessor],
-    queue: &mut Queue,
-)
-    requires certified { IsReducedCostOptimal graph.now.rows flow.now potentials.old }
-    requires sized { length predecessors.old ≡ length potentials.old }
-    requires queue_sized { length queue.old.entries ≡ length potentials.old }
-    ensures certified { IsReducedCostOptimal graph.now.rows flow.now potentials.new }
-    ensures within { ArePotentials (length potentials.new) label_floor potentials.new }
-    ensures greatest { AreGreatest graph.now.rows flow.now potentials.new }
-    ensures queue_sized { length queue.new.entries ≡ length queue.old.entries }
-{
-    predecessors.fill(Predecessor::open());
-    offer_all(potentials, queue);
-    while let Some(node) = queue.take_first() {
-        let waiting = queue.entry(node);
-        settle(graph, potentials, predecessors, node, waiting);
-        let reached = Progress {
-            graph,
-            flow,
-            potentials,
-            predecessors,
-        };
-        offer_from(reached, queue, node);
+impl Tree {
+    /// Raises labels that certify a flow until they are the greatest potentials that do: those of open nodes rise together
+    /// until one is 0, or a residual arc from a node that is not open costs nothing.
+    #[inline(never)] // a name of its own in the program: `bench/count` counts its calls
+    pub fn search_labels(&mut self, graph: &Graph, flow: &[i64], queue: &mut Queue)
+        requires certified { IsReducedCostOptimal graph.now.rows flow.now self.old.labels }
+        requires queue_sized { length queue.old.entries ≡ length self.old.labels }
+        ensures sized { length self.new.labels ≡ length self.old.labels }
+        ensures forgotten { IsForgotten self.new }
+        ensures certified { IsReducedCostOptimal graph.now.rows flow.now self.new.labels }
+        ensures within { ArePotentials (length self.new.labels) label_floor self.new.labels }
+        ensures greatest { AreGreatest graph.now.rows flow.now self.new.labels }
+        ensures queue_sized { length queue.new.entries ≡ length queue.old.entries }
+    {
+        self.forget();
+        let potentials: &mut [i64] = &mut self.labels;
+        let predecessors: &mut [Predecessor] = &mut self.predecessors;
+        predecessors.fill(Predecessor::open());
+        offer_all(potentials, queue);
+        while let Some(node) = queue.take_first() {
+            let waiting = queue.entry(node);
+            settle(graph, potentials, predecessors, node, waiting);
+            let reached = Progress {
+                graph,
+                flow,
+                potentials,
+                predecessors,
+            };
+            offer_from(reached, queue, node);
+        }
     }
 }

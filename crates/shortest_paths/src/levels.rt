@@ -6,15 +6,17 @@
 
 ghost use Rattle.std.specs.Prelude.{◌≡◌, ◌+◌, ◌/◌, ◌<◌, false, IsTrue, List, ℤ, length};
 ghost use Rattle.residual_graph.specs.Limits.{potential_floor};
-ghost use Rattle.residual_graph.specs.Residual.{ArePotentials, IsPseudoflow};
+ghost use Rattle.residual_graph.specs.Residual.{IsPseudoflow, IsReducedCostOptimal};
 ghost use Rattle.shortest_paths.specs.Predecessor.{AreBounded};
 ghost use Rattle.shortest_paths.specs.Levels.{IsHangingOn};
 ghost use Rattle.shortest_paths.specs.Progress.{IsLeadingToOn};
-ghost use Rattle.shortest_paths.specs.Search.{IsForest, IsSearch};
+ghost use Rattle.shortest_paths.specs.Search.{IsSearch};
+ghost use Rattle.shortest_paths.specs.Tree.{IsForestOf};
 
 use crate::predecessor::{Predecessor, leaving, reduced_along};
 use crate::progress::Progress;
 use crate::search::{begin_in_excess, come_along, crosses};
+use crate::tree::Tree;
 use containers::{Queue, Waiting};
 use residual_graph::Graph;
 
@@ -62,80 +64,76 @@ fn leads_to(on: Progress<'_>, node: usize, end: u32) -> bool
     arc.way.end(&row) as usize == node && reduced_along(&row, on.potentials, arc.way) == 0
 }
 
-/// Searches breadth first from the nodes in excess over residual arcs that cost nothing, and says whether it came to a
-/// node in deficit.
-pub(crate) fn search_levels(
-    graph: &Graph,
-    flow: &[i64],
-    excess: &[i64],
-    potentials: &[i64],
-    predecessors: &mut [Predecessor],
-    queue: &mut Queue,
-) -> bool
-    requires flow { IsPseudoflow (length potentials.now) graph.now.rows flow.now }
-    requires potentials { ArePotentials (length potentials.now) potential_floor potentials.now }
-    requires excess_in { length excess.now ≡ length potentials.now }
-    requires sized { length predecessors.old ≡ length potentials.now }
-    requires queue_sized { length queue.old.entries ≡ length potentials.now }
-    ensures search { IsSearch graph.now.rows flow.now potentials.now predecessors.new }
-    ensures queue_sized { length queue.new.entries ≡ length queue.old.entries }
-{
-    begin_in_excess(excess, predecessors);
-    queue.clear();
-    let begun = Progress {
-        graph,
-        flow,
-        potentials,
-        predecessors,
-    };
-    for v in 0..begun.predecessors.len() {
-        offer_levels_from(begun, queue, v);
-    }
-    let mut has_deficit = false;
-    while let Some(node) = queue.take_first() {
-        let end = queue.entry(node).end;
-        let before = Progress {
+impl Tree {
+    /// Searches breadth first from the nodes in excess over residual arcs that cost nothing, and says whether it came to a
+    /// node in deficit.
+    pub fn search_levels(
+        &mut self,
+        graph: &Graph,
+        flow: &[i64],
+        excess: &[i64],
+        queue: &mut Queue,
+    ) -> bool
+        requires certified { IsReducedCostOptimal graph.now.rows flow.now self.old.labels }
+        requires excess_in { length excess.now ≡ length self.old.labels }
+        requires queue_sized { length queue.old.entries ≡ length self.old.labels }
+        ensures same { self.new ≡ record self.old { predecessors = self.new.predecessors } }
+        ensures search { IsSearch graph.now.rows flow.now self.new.labels self.new.predecessors }
+        ensures queue_sized { length queue.new.entries ≡ length queue.old.entries }
+    {
+        let predecessors: &mut [Predecessor] = &mut self.predecessors;
+        begin_in_excess(excess, predecessors);
+        queue.clear();
+        let begun = Progress {
             graph,
             flow,
-            potentials,
+            potentials: &self.labels,
             predecessors,
         };
-        if !leads_to(before, node, end) {
-            break;
+        for v in 0..begun.predecessors.len() {
+            offer_levels_from(begun, queue, v);
         }
-        come_along(graph, predecessors, node, end);
-        has_deficit = has_deficit || excess[node] < 0;
-        let reached = Progress {
-            graph,
-            flow,
-            potentials,
-            predecessors,
-        };
-        offer_levels_from(reached, queue, node);
+        let mut has_deficit = false;
+        while let Some(node) = queue.take_first() {
+            let end = queue.entry(node).end;
+            let before = Progress {
+                graph,
+                flow,
+                potentials: &self.labels,
+                predecessors,
+            };
+            if !leads_to(before, node, end) {
+                break;
+            }
+            come_along(graph, predecessors, node, end);
+            has_deficit = has_deficit || excess[node] < 0;
+            let reached = Progress {
+                graph,
+                flow,
+                potentials: &self.labels,
+                predecessors,
+            };
+            offer_levels_from(reached, queue, node);
+        }
+        has_deficit
     }
-    has_deficit
-}
 
-/// Hangs a node of a forest on the node from which the residual arc leads that leaves at an end, where that costs nothing
-/// and the rank of the node stays; says whether it does.
-pub(crate) fn hang_on(
-    graph: &Graph,
-    potentials: &[i64],
-    predecessors: &mut [Predecessor],
-    node: usize,
-    end: u32,
-) -> bool
-    requires flow { (x : List ℤ) × IsPseudoflow (length potentials.now) graph.now.rows x }
-    requires bounded { AreBounded potential_floor potentials.now }
-    requires node { node < length potentials.now }
-    requires forest { IsForest graph.now.rows potentials.now predecessors.old }
-    ensures forest { IsForest graph.now.rows potentials.now predecessors.new }
-{
-    if !is_hanging_on(graph, potentials, predecessors, node, end) {
-        return false;
+    /// Hangs a node of the forest that a search left on the node from which the residual arc leads that leaves at an end, where
+    /// that costs nothing and the rank of the node stays; says whether it does.
+    pub fn hang_on(&mut self, graph: &Graph, node: usize, end: u32) -> bool
+        requires flow { (x : List ℤ) × IsPseudoflow (length self.old.labels) graph.now.rows x }
+        requires bounded { AreBounded potential_floor self.old.labels }
+        requires node { node < length self.old.labels }
+        requires forest { IsForestOf graph.now.rows self.old }
+        ensures same { self.new ≡ record self.old { predecessors = self.new.predecessors } }
+        ensures forest { IsForestOf graph.now.rows self.new }
+    {
+        if !is_hanging_on(graph, &self.labels, &self.predecessors, node, end) {
+            return false;
+        }
+        self.predecessors[node].end = end;
+        true
     }
-    predecessors[node].end = end;
-    true
 }
 
 /// Whether the residual arc that leaves at an end leads to a node from one of the rank before, and costs nothing.

@@ -15,9 +15,11 @@ ghost use Rattle.shortest_paths.specs.Limits.{label_floor};
 ghost use Rattle.shortest_paths.specs.Predecessor.{AreBounded, rank_at};
 ghost use Rattle.shortest_paths.specs.Progress.{AreServedFromOn, AreServedOn, CrossesOn, HaveJoinedOn, IsServedOn};
 ghost use Rattle.shortest_paths.specs.Search.{AreLowered, IsDeficitAt, IsDeficitFound, IsFromExcess, IsWithinFloor, come_to, lowered_by, raised, rank_before};
+ghost use Rattle.shortest_paths.specs.Tree.{IsForgotten};
 
 use crate::predecessor::{Predecessor, leaving, reduced_along};
 use crate::progress::Progress;
+use crate::tree::Tree;
 use containers::{Queue, Waiting};
 use residual_graph::Graph;
 
@@ -175,59 +177,64 @@ fn is_last(found: Option<usize>, lacking: usize) -> bool
     found.is_some() && lacking == 0
 }
 
-/// Searches from the nodes in excess for all that they reach, or until no node in deficit is left, and lowers the potentials
-/// of these nodes until the residual arcs of the paths to them cost nothing: so one search serves many pushes. Gives the
-/// first node in deficit that it came to, or nothing where none can be reached.
-#[inline(never)] // a name of its own in the program, for profiles
-pub(crate) fn search_from_excess(
-    graph: &Graph,
-    flow: &[i64],
-    excess: &[i64],
-    potentials: &mut [i64],
-    predecessors: &mut [Predecessor],
-    queue: &mut Queue,
-) -> Option<usize>
-    requires certified { IsReducedCostOptimal graph.now.rows flow.now potentials.old }
-    requires in_range { ArePotentials (length potentials.old) label_floor potentials.old }
-    requires excess_in { length excess.now ≡ length potentials.old }
-    requires sized { length predecessors.old ≡ length potentials.old }
-    requires queue_sized { length queue.old.entries ≡ length potentials.old }
-    ensures certified { IsReducedCostOptimal graph.now.rows flow.now potentials.new }
-    ensures found { IsDeficitFound graph.now.rows flow.now potentials.new excess.now
-        predecessors.new result }
-    ensures queue_sized { length queue.new.entries ≡ length queue.old.entries }
-{
-    begin_in_excess(excess, predecessors);
-    queue.clear();
-    let begun = Progress {
-        graph,
-        flow,
-        potentials,
-        predecessors,
-    };
-    offer_from_all(begun, queue);
-    let mut distance = 0;
-    let mut found = None;
-    let mut lacking = excess.iter().filter(|x| **x < 0).count();
-    while let Some(node) = queue.take_first() {
-        let waiting = queue.entry(node);
-        distance = waiting.key;
-        raise(potentials, node, waiting);
-        come_along(graph, predecessors, node, waiting.end);
-        found = first_in_deficit(found, excess, node);
-        lacking = lacking.saturating_sub(usize::from(excess[node] < 0));
-        if is_last(found, lacking) {
-            lower_reached(potentials, predecessors, distance);
-            return found;
-        }
-        let reached = Progress {
+impl Tree {
+    /// Searches from the nodes in excess for all that they reach, or until no node in deficit is left, and lowers the labels
+    /// of these nodes until the residual arcs of the paths to them cost nothing: so one search serves many pushes. Gives the
+    /// first node in deficit that it came to, or nothing where none can be reached.
+    #[inline(never)] // a name of its own in the program, for profiles
+    pub fn search_from_excess(
+        &mut self,
+        graph: &Graph,
+        flow: &[i64],
+        excess: &[i64],
+        queue: &mut Queue,
+    ) -> Option<usize>
+        requires certified { IsReducedCostOptimal graph.now.rows flow.now self.old.labels }
+        requires in_range { ArePotentials (length self.old.labels) label_floor self.old.labels }
+        requires excess_in { length excess.now ≡ length self.old.labels }
+        requires queue_sized { length queue.old.entries ≡ length self.old.labels }
+        ensures sized { length self.new.labels ≡ length self.old.labels }
+        ensures forgotten { IsForgotten self.new }
+        ensures certified { IsReducedCostOptimal graph.now.rows flow.now self.new.labels }
+        ensures found { IsDeficitFound graph.now.rows flow.now self.new.labels excess.now
+            self.new.predecessors result }
+        ensures queue_sized { length queue.new.entries ≡ length queue.old.entries }
+    {
+        self.forget();
+        let potentials: &mut [i64] = &mut self.labels;
+        let predecessors: &mut [Predecessor] = &mut self.predecessors;
+        begin_in_excess(excess, predecessors);
+        queue.clear();
+        let begun = Progress {
             graph,
             flow,
             potentials,
             predecessors,
         };
-        offer_from(reached, queue, node);
+        offer_from_all(begun, queue);
+        let mut distance = 0;
+        let mut found = None;
+        let mut lacking = excess.iter().filter(|x| **x < 0).count();
+        while let Some(node) = queue.take_first() {
+            let waiting = queue.entry(node);
+            distance = waiting.key;
+            raise(potentials, node, waiting);
+            come_along(graph, predecessors, node, waiting.end);
+            found = first_in_deficit(found, excess, node);
+            lacking = lacking.saturating_sub(usize::from(excess[node] < 0));
+            if is_last(found, lacking) {
+                lower_reached(potentials, &self.predecessors, distance);
+                return found;
+            }
+            let reached = Progress {
+                graph,
+                flow,
+                potentials,
+                predecessors,
+            };
+            offer_from(reached, queue, node);
+        }
+        lower_reached(potentials, &self.predecessors, distance);
+        found
     }
-    lower_reached(potentials, predecessors, distance);
-    found
 }

@@ -6,11 +6,10 @@
 
 ghost use Rattle.std.specs.Prelude.{◌≡◌, ◌<◌, ◌≤◌, IfOk, IfSome, length, true};
 ghost use Rattle.residual_graph.specs.Limits.{row_limit};
-ghost use Rattle.shortest_paths.specs.Tree.{AreArcsNoted, IsMarkedToo, IsNotedIn, IsRelabelled, IsTreeOf, StaysHeld};
+ghost use Rattle.shortest_paths.specs.Tree.{AreArcsNoted, IsForgotten, IsMarkedToo, IsNotedIn, IsRelabelled, IsTreeOf, StaysHeld};
 
 mod joining;
 mod near;
-mod potentials;
 mod whole;
 
 use crate::forest::Forest;
@@ -49,8 +48,8 @@ enum Knowledge {
 /// The labels of all nodes, and how each node got its own. A node whose predecessor no longer leads to it is loose.
 #[derive(Drop)]
 pub struct Tree {
-    labels: Vec<i64>,
-    predecessors: Vec<Predecessor>,
+    pub(crate) labels: Vec<i64>,
+    pub(crate) predecessors: Vec<Predecessor>,
     /// The nodes whose label or predecessor was written since labels were tested.
     touched: Touched,
     /// The rows of arcs that may have changed since labels were tested, or whose flow may have.
@@ -272,6 +271,16 @@ impl Tree {
         }
         self.knowledge = Knowledge::Held;
         self.note_all(graph, written);
+    }
+
+    /// Makes the labels these potentials, with which searches between pushes begin: nothing is held of them then.
+    pub fn take_potentials(&mut self, potentials: &[i64])
+        requires same_length { length potentials.now ≡ length self.old.labels }
+        ensures labels { self.new.labels ≡ potentials.now }
+        ensures forgotten { IsForgotten self.new }
+    {
+        self.forget();
+        self.labels.copy_from_slice(potentials);
     }
 
     /// Finds all labels anew, from all nodes with label 0. Says whether all may be right.

@@ -3,7 +3,7 @@ use Rattle.residual_graph.specs.Residual.{number_at}
 use Rattle.shortest_paths.specs.Predecessor.{rank_at}
 use Rattle.shortest_paths.specs.Search.{IsReached, open_count}
 use Rattle.shortest_paths.proofs.StepLemmas.{AreAlong, IsClimbing, IsFirstFound, IsUnderway}
-use Rattle.shortest_paths.proofs.search.search_from_excess.Given as goal
+use Rattle.shortest_paths.proofs.tree.Tree.search_from_excess.Given as goal
 
 abbrev pub invariant-loop-node : goal.invariant-loop-node
 invariant-loop-node l = record {

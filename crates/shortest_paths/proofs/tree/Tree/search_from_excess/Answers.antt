@@ -1,29 +1,33 @@
 use Rattle.std.proofs.Common.{◌≡◌, ◌∙◌, ◌/◌, ◌<◌, ◌≤ℤ◌, ◌+ℤ◌, ℕ, ℤ, List, ◌*◌, pos, ap, arith, length, refl, rules, slice_set, subst, sym, w64, SFits, to_z, of_z}
 use Rattle.std.specs.Prelude.{◌<ℤ◌}
 use Rattle.std.proofs.lemmas.Int.{ints, to_z-of_z}
+use Rattle.std.proofs.lemmas.List.{with_items_is}
 use Rattle.containers.specs.declared.queue.Waiting.{Waiting}
 use Rattle.containers.specs.Queue.{entry_at, key_at}
 use Rattle.residual_graph.specs.Limits.{entry_limit, potential_floor}
-use Rattle.residual_graph.specs.Residual.{IsPseudoflow, NoneBelowBy, number_at, start_at}
+use Rattle.residual_graph.specs.Residual.{ArePotentials, IsPseudoflow, IsReducedCostOptimal, NoneBelowBy, number_at, start_at}
 use Rattle.residual_graph.specs.Walk.{end_way}
 use Rattle.shortest_paths.specs.Limits.{label_floor}
 use Rattle.shortest_paths.specs.declared.predecessor.Predecessor.{Predecessor}
 use Rattle.shortest_paths.specs.Predecessor.{rank_at}
-use Rattle.shortest_paths.specs.Search.{AreLowered, AreServedFrom, HaveJoined, IsReached, IsSearch, come_from, open_count}
+use Rattle.shortest_paths.specs.Search.{AreLowered, AreServedFrom, HaveJoined, IsDeficitFound, IsReached, IsSearch, come_from, open_count}
+use Rattle.shortest_paths.specs.Tree.{TreeView}
 use Rattle.shortest_paths.proofs.StepLemmas.{AreAlong, IsClimbing, IsUnderway, along_after, was_waiting, along_first, bounded_climbing, certified_lowered, climbing_after, climbing_first, fewer, IsFirstFound, found_after, found_before_end, found_or_exhausted, key_enough, later_along, node_in, none_below_after, of_tables, rank_fits, risen, roots_after, search_along, search_lowered, sources_after, underway_after, underway_first}
-use Rattle.shortest_paths.proofs.search.search_from_excess.Goals as goal
-use Rattle.shortest_paths.proofs.search.search_from_excess.Goals.{After-come_along}
+use Rattle.shortest_paths.proofs.tree.Tree.search_from_excess.Goals as goal
+use Rattle.shortest_paths.proofs.tree.Tree.search_from_excess.Goals.{After-come_along}
 
 pub loop-node-init : goal.loop-node-init
 loop-node-init c =
     let rows = c.args.graph.now.rows in
     let t = c.begin_in_excess.new.predecessors in
-    let sized : length t ≡ length c.args.potentials.now = search rules in
-    let as_many : length c.clear.new.self.entries ≡ length c.args.potentials.now = search rules in
+    let sized : length t ≡ length c.deref_mut-potentials.result.now = search rules in
+    let as_many : length c.clear.new.self.entries ≡ length c.deref_mut-potentials.result.now = search rules in
+    let labels_are = c.deref_mut-potentials.ensures.value ∙ ap (λ (tree : TreeView). tree.labels) (c.self.view_is ∙ c.forget.ensures) in
+    let certified = subst (IsReducedCostOptimal rows c.args.flow.now) (sym labels_are) c.requires.certified in
     record {
-      underway = underway_first rows c.args.flow.now c.args.potentials.now t _ _ c.requires.certified sized c.begin_in_excess.ensures.flat as_many c.clear.ensures.none c.offer_from_all.ensures.grown c.offer_from_all.ensures.served;
-      along = along_first rows c.args.flow.now c.args.potentials.now t _ _ c.requires.certified sized c.begin_in_excess.ensures.flat as_many c.clear.ensures.none c.offer_from_all.ensures.grown;
-      climbing = climbing_first c.args.potentials.now t c.requires.in_range;
+      underway = underway_first rows c.args.flow.now c.deref_mut-potentials.result.now t _ _ certified sized c.begin_in_excess.ensures.flat as_many c.clear.ensures.none c.offer_from_all.ensures.grown c.offer_from_all.ensures.served;
+      along = along_first rows c.args.flow.now c.deref_mut-potentials.result.now t _ _ certified sized c.begin_in_excess.ensures.flat as_many c.clear.ensures.none c.offer_from_all.ensures.grown;
+      climbing = climbing_first c.deref_mut-potentials.result.now t (subst (λ (p : List ℤ). ArePotentials (length p) label_floor p) (sym labels_are) c.requires.in_range);
       sources = c.begin_in_excess.ensures.from.sources;
       roots = c.begin_in_excess.ensures.from.roots;
       found = c.begin_in_excess.ensures.from.no_deficit;
@@ -107,12 +111,19 @@ lower_reached-requires-clause-fall c =
     let stepped = is_stepped (goal.at.lower_reached-requires-clause-fall c).After-come_along in
     subst (λ (n : ℤ). (pos 0 ≤ℤ n) × (n ≤ℤ pos potential_floor)) (sym stepped.word) stepped.enough
 
+pub lower_reached-requires-2-clause-bounded : goal.lower_reached-requires-2-clause-bounded
+lower_reached-requires-2-clause-bounded c =
+    let inv = c.loop-node.invariant in
+    bounded_climbing _ _ _ inv.underway.search.sized inv.climbing
+
 pub returns-then-is_last-clause-certified : goal.returns-then-is_last-clause-certified
 returns-then-is_last-clause-certified c =
     let s = (goal.at.returns-then-is_last-clause-certified c).After-come_along in
     let stepped = is_stepped s in
-    let lowered : AreLowered c.raise.new.potentials c.lower_reached.new.potentials c.come_along.new.predecessors (key_at c.loop-node.queue.entries c.in-Some.node) = subst (AreLowered c.raise.new.potentials c.lower_reached.new.potentials c.come_along.new.predecessors) stepped.word c.lower_reached.ensures in
-    certified_lowered _ _ _ _ _ stepped.flow stepped.search stepped.none_below stepped.climbing c.lower_reached.new.potentials lowered
+    let predecessors_end = with_items_is c.self.inside.predecessors c.come_along.new.predecessors (omega (arith, c.come_along.auto.predecessors, c.loop-node.auto.predecessors, c.begin_in_excess.auto.predecessors, c.deref_mut-predecessors.ensures.len)) in
+    let lowered : AreLowered c.raise.new.potentials c.lower_reached.new.potentials c.come_along.new.predecessors (key_at c.loop-node.queue.entries c.in-Some.node) = subst (AreLowered c.raise.new.potentials c.lower_reached.new.potentials c.come_along.new.predecessors) stepped.word (rw (c.deref.ensures.value, predecessors_end) at c.lower_reached.ensures) in
+    let labels_end = with_items_is c.self.inside.labels c.lower_reached.new.potentials (omega (arith, c.lower_reached.auto.potentials, c.raise.auto.potentials, c.loop-node.auto.potentials, c.deref_mut-potentials.ensures.len)) in
+    subst (IsReducedCostOptimal c.args.graph.now.rows c.args.flow.now) (sym labels_end) (certified_lowered _ _ _ _ _ stepped.flow stepped.search stepped.none_below stepped.climbing c.lower_reached.new.potentials lowered)
 
 -- what was found after a step, and where the search began
 roots_stepped : (c : After-come_along) (u : ℕ) → IsReached c.come_along.new.predecessors u → rank_at c.come_along.new.predecessors u ≡ 0 → pos 0 <ℤ number_at c.args.excess.now u
@@ -131,11 +142,14 @@ returns-then-is_last-clause-found c =
     let v = c.in-Some.node in
     let q = c.lower_reached.new.potentials in
     let stepped = is_stepped s in
-    let lowered : AreLowered c.raise.new.potentials q c.come_along.new.predecessors (key_at c.loop-node.queue.entries c.in-Some.node) = subst (AreLowered c.raise.new.potentials q c.come_along.new.predecessors) stepped.word c.lower_reached.ensures in
+    let predecessors_end = with_items_is c.self.inside.predecessors c.come_along.new.predecessors (omega (arith, c.come_along.auto.predecessors, c.loop-node.auto.predecessors, c.begin_in_excess.auto.predecessors, c.deref_mut-predecessors.ensures.len)) in
+    let lowered : AreLowered c.raise.new.potentials q c.come_along.new.predecessors (key_at c.loop-node.queue.entries c.in-Some.node) = subst (AreLowered c.raise.new.potentials q c.come_along.new.predecessors) stepped.word (rw (c.deref.ensures.value, predecessors_end) at c.lower_reached.ensures) in
     let searched = search_lowered _ _ _ _ _ stepped.flow stepped.search stepped.none_below stepped.climbing q lowered in
     let found = subst (λ (t : List Predecessor). IsFirstFound c.args.excess.now t c.first_in_deficit-found.result) (sym (predecessors_are s))
     (found_after c.args.graph.now.rows c.args.excess.now c.loop-node.predecessors v _ (node_in _ _ _ _ _ _ _ _ inv.underway taken) (inv.underway.opens v taken.was) c.loop-node.found c.first_in_deficit-found.result c.first_in_deficit-found.ensures.some c.first_in_deficit-found.ensures.none inv.found) in
-    found_before_end _ _ _ _ _ c.first_in_deficit-found.result (c.is_last.ensures c.if-is_last.true) searched (roots_stepped s) found
+    let labels_end = with_items_is c.self.inside.labels q (omega (arith, c.lower_reached.auto.potentials, c.raise.auto.potentials, c.loop-node.auto.potentials, c.deref_mut-potentials.ensures.len)) in
+    of_tables (λ (p : List ℤ) (t : List Predecessor). IsDeficitFound c.args.graph.now.rows c.args.flow.now p c.args.excess.now t c.first_in_deficit-found.result) labels_end predecessors_end
+    (found_before_end _ _ _ _ _ c.first_in_deficit-found.result (c.is_last.ensures c.if-is_last.true) searched (roots_stepped s) found)
 
 pub invariant_of-reached-clause-bounded : goal.invariant_of-reached-clause-bounded
 invariant_of-reached-clause-bounded c =
@@ -186,11 +200,17 @@ loop-node-preserved c =
 pub returns-clause-certified : goal.returns-clause-certified
 returns-clause-certified c =
     let inv = c.loop-node.invariant in
-    certified_lowered _ _ _ _ _ inv.underway.flow inv.underway.search inv.underway.none_below inv.climbing _ c.lower_reached-2.ensures
+    let predecessors_end = with_items_is c.self.inside.predecessors c.loop-node.predecessors (omega (arith, c.loop-node.auto.predecessors, c.begin_in_excess.auto.predecessors, c.deref_mut-predecessors.ensures.len)) in
+    let labels_end = with_items_is c.self.inside.labels c.lower_reached-2.new.potentials (omega (arith, c.lower_reached-2.auto.potentials, c.loop-node.auto.potentials, c.deref_mut-potentials.ensures.len)) in
+    subst (IsReducedCostOptimal c.args.graph.now.rows c.args.flow.now) (sym labels_end) (certified_lowered _ _ _ _ _ inv.underway.flow inv.underway.search inv.underway.none_below inv.climbing _ (rw (c.deref-2.ensures.value, predecessors_end) at c.lower_reached-2.ensures))
 
 pub returns-clause-found : goal.returns-clause-found
 returns-clause-found c =
     let inv = c.loop-node.invariant in
-    let searched = search_lowered _ _ _ _ _ inv.underway.flow inv.underway.search inv.underway.none_below inv.climbing _ c.lower_reached-2.ensures in
-    found_or_exhausted _ _ _ _ _ _ (omega (arith, inv.underway.search.sized, c.loop-node.auto.potentials, c.requires.excess_in)) searched
-    (λ k way at. c.in_default.ensures.first _ (inv.underway.served k way at).0) inv.sources inv.roots inv.found
+    let predecessors_end = with_items_is c.self.inside.predecessors c.loop-node.predecessors (omega (arith, c.loop-node.auto.predecessors, c.begin_in_excess.auto.predecessors, c.deref_mut-predecessors.ensures.len)) in
+    let searched = search_lowered _ _ _ _ _ inv.underway.flow inv.underway.search inv.underway.none_below inv.climbing _ (rw (c.deref-2.ensures.value, predecessors_end) at c.lower_reached-2.ensures) in
+    let labels_are = c.deref_mut-potentials.ensures.value ∙ ap (λ (tree : TreeView). tree.labels) (c.self.view_is ∙ c.forget.ensures) in
+    let labels_end = with_items_is c.self.inside.labels c.lower_reached-2.new.potentials (omega (arith, c.lower_reached-2.auto.potentials, c.loop-node.auto.potentials, c.deref_mut-potentials.ensures.len)) in
+    of_tables (λ (p : List ℤ) (t : List Predecessor). IsDeficitFound c.args.graph.now.rows c.args.flow.now p c.args.excess.now t c.loop-node.found) labels_end predecessors_end
+    (found_or_exhausted _ _ _ _ _ _ (omega (arith, inv.underway.search.sized, c.loop-node.auto.potentials, ap length labels_are, c.requires.excess_in)) searched
+    (λ k way at. c.in_default.ensures.first _ (inv.underway.served k way at).0) inv.sources inv.roots inv.found)

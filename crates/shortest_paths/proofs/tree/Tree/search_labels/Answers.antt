@@ -1,28 +1,32 @@
 use Rattle.std.proofs.Common.{◌≡◌, ◌∙◌, ◌/◌, ◌<◌, ◌+ℤ◌, ℕ, ℤ, List, pos, ap, arith, inl, inr, length, refl, rules, slice_set, subst, sym}
 use Rattle.std.specs.Prelude.{◌<ℤ◌, false}
 use Rattle.std.proofs.lemmas.Int.{ints}
-use Rattle.std.proofs.lemmas.List.{get_or-set_same}
+use Rattle.std.proofs.lemmas.List.{get_or-set_same, with_items_is}
 use Rattle.containers.specs.declared.queue.Waiting.{Waiting}
 use Rattle.containers.specs.Queue.{entry_at, key_at}
 use Rattle.residual_graph.specs.Limits.{entry_limit, potential_floor}
-use Rattle.residual_graph.specs.Residual.{ArePotentials, number_at}
+use Rattle.residual_graph.specs.Residual.{AreGreatest, ArePotentials, IsReducedCostOptimal, number_at}
 use Rattle.shortest_paths.specs.declared.predecessor.Predecessor.{Predecessor}
+use Rattle.shortest_paths.specs.Limits.{label_floor}
 use Rattle.shortest_paths.specs.Predecessor.{root_node}
 use Rattle.shortest_paths.specs.Search.{AreRaised, AreServedFrom, HaveJoined, IsOpen, IsSearch, come_from, open_count, rank_before}
+use Rattle.shortest_paths.specs.Tree.{TreeView}
 use Rattle.shortest_paths.proofs.StepLemmas.{HaveJoined-refl, IsRising, IsUnderway, below_or_not, bounded_rising, certified_raised, fewer, greatest_raised, later_rising, of_tables, potential_in, node_in, raised_along, raised_root, rank_fits, rising_after, rising_first, root_or_along, search_along, search_root, underway_after, underway_rising, was_waiting, within_raised}
-use Rattle.shortest_paths.proofs.labels.search_labels.Goals as goal
-use Rattle.shortest_paths.proofs.labels.search_labels.Goals.{After-settle}
+use Rattle.shortest_paths.proofs.tree.Tree.search_labels.Goals as goal
+use Rattle.shortest_paths.proofs.tree.Tree.search_labels.Goals.{After-settle}
 
 pub loop-node-init : goal.loop-node-init
 loop-node-init c =
     let rows = c.args.graph.now.rows in
     let t = c.fill.new.self in
-    let sized : length t ≡ length c.args.potentials.now = search rules in
+    let sized : length t ≡ length c.deref_mut-potentials.result.now = search rules in
     let all_open : (v : ℕ) → v < length t → IsOpen t v = search rules in
+    let labels_are = c.deref_mut-potentials.ensures.value ∙ ap (λ (tree : TreeView). tree.labels) (c.self.view_is ∙ c.forget.ensures) in
+    let certified = subst (IsReducedCostOptimal rows c.args.flow.now) (sym labels_are) c.requires.certified in
     record {
       distance = pos 0;
-      underway = underway_rising rows c.args.flow.now c.args.potentials.now t c.offer_all.new.queue c.requires.certified sized all_open c.offer_all.ensures;
-      rising = rising_first rows c.args.flow.now c.args.potentials.now t c.offer_all.new.queue c.requires.certified sized all_open c.offer_all.ensures;
+      underway = underway_rising rows c.args.flow.now c.deref_mut-potentials.result.now t c.offer_all.new.queue certified sized all_open c.offer_all.ensures;
+      rising = rising_first rows c.args.flow.now c.deref_mut-potentials.result.now t c.offer_all.new.queue certified sized all_open c.offer_all.ensures;
     }
 
 pub settle-requires-clause-fits : goal.settle-requires-clause-fits
@@ -129,14 +133,17 @@ loop-node-preserved c =
 pub returns-clause-certified : goal.returns-clause-certified
 returns-clause-certified c =
     let inv = c.loop-node.invariant in
-    certified_raised _ _ _ _ _ _ inv.underway inv.rising c.in_default.ensures.first
+    let labels_end = with_items_is c.self.inside.labels c.loop-node.potentials (c.loop-node.auto.potentials ∙ c.deref_mut-potentials.ensures.len) in
+    subst (IsReducedCostOptimal c.args.graph.now.rows c.args.flow.now) (sym labels_end) (certified_raised _ _ _ _ _ _ inv.underway inv.rising c.in_default.ensures.first)
 
 pub returns-clause-within : goal.returns-clause-within
 returns-clause-within c =
     let inv = c.loop-node.invariant in
-    within_raised _ _ _ _ _ _ inv.underway inv.rising c.in_default.ensures.first
+    let labels_end = with_items_is c.self.inside.labels c.loop-node.potentials (c.loop-node.auto.potentials ∙ c.deref_mut-potentials.ensures.len) in
+    subst (λ (p : List ℤ). ArePotentials (length p) label_floor p) (sym labels_end) (within_raised _ _ _ _ _ _ inv.underway inv.rising c.in_default.ensures.first)
 
 pub returns-clause-greatest : goal.returns-clause-greatest
 returns-clause-greatest c =
     let inv = c.loop-node.invariant in
-    greatest_raised _ _ _ _ _ _ inv.underway inv.rising c.in_default.ensures.first
+    let labels_end = with_items_is c.self.inside.labels c.loop-node.potentials (c.loop-node.auto.potentials ∙ c.deref_mut-potentials.ensures.len) in
+    subst (AreGreatest c.args.graph.now.rows c.args.flow.now) (sym labels_end) (greatest_raised _ _ _ _ _ _ inv.underway inv.rising c.in_default.ensures.first)

@@ -1,7 +1,7 @@
 use Rattle.std.proofs.Common.{ℤ}
 use Rattle.shortest_paths.specs.Search.{open_count}
 use Rattle.shortest_paths.proofs.StepLemmas.{IsRising, IsUnderway}
-use Rattle.shortest_paths.proofs.labels.search_labels.Given as goal
+use Rattle.shortest_paths.proofs.tree.Tree.search_labels.Given as goal
 
 abbrev pub invariant-loop-node : goal.invariant-loop-node
 invariant-loop-node l = record {
