@@ -223,8 +223,13 @@ impl Between {
         self.sinks.clear();
         for v in nodes {
             let v = *v as usize;
-            if v < proposal.entries() {
-                self.list_root(v, proposal.rest(v));
+            if v >= proposal.entries() {
+                continue;
+            }
+            if proposal.rest(v) > 0 {
+                self.sources.add(v);
+            } else if proposal.rest(v) < 0 {
+                self.sinks.add(v);
             }
         }
     }
@@ -232,18 +237,6 @@ impl Between {
     /// The nodes that were listed as in excess, and those as in deficit.
     pub fn listed_roots(&self) -> (&[u32], &[u32]) {
         (self.sources.listed(), self.sinks.listed())
-    }
-
-    /// Lists a node at which so much lies, if it is out of balance.
-    fn list_root(&mut self, v: usize, rest: i64)
-        requires { v < self.old }
-        ensures { self.new ≡ self.old }
-    {
-        if rest > 0 {
-            self.sources.add(v);
-        } else if rest < 0 {
-            self.sinks.add(v);
-        }
     }
 
     /// Begins at all nodes in excess and at all in deficit, and says how many these are, if there are both.
