@@ -11,7 +11,7 @@ use relaxation::{Proposal, REST_LIMIT, seen};
 const PLENTY: i64 = REST_LIMIT / 2;
 
 /// Searches as for a greatest flow that leave the sides together.
-const TOGETHER: Fuel = Fuel {
+pub(crate) const TOGETHER: Fuel = Fuel {
     apart: 0,
     ..Fuel::GREATEST
 };

@@ -72,12 +72,14 @@ fn rooms_by_size(proposal: &Proposal) -> [u64; STAGES] {
     rooms
 }
 
-/// How much is out of balance at nodes where it is of each size; at place 0 how much there is.
+/// How much is to be served at nodes where it is of each size; at place 0 how much there is.
 fn rests_by_size(proposal: &Proposal) -> [u64; STAGES] {
     let mut rests = [0; STAGES];
-    for rest in proposal.rests() {
-        let rest = rest.unsigned_abs();
-        add_at(&mut rests, rest, rest);
+    for v in 0..proposal.entries() {
+        if proposal.is_to_serve(v) {
+            let rest = proposal.rest(v).unsigned_abs();
+            add_at(&mut rests, rest, rest);
+        }
     }
     rests
 }

@@ -3,6 +3,7 @@
 ghost use Rattle.std.specs.Prelude.{◌≡◌, ◌<◌, ◌^◌, ◌*◌, IfOk, length};
 
 use crate::greatest::solve_from;
+use crate::parted::{close_cut, least_left, mark_sides};
 use crate::search::Search;
 use crate::solving::solve;
 use crate::wanted::{FlowChange, Wanted};
@@ -142,7 +143,7 @@ impl Proposals {
     {
         self.standing = Standing::Apart;
         self.proposal.load_nodes(excess, potentials);
-        load_arcs(&mut self.proposal.ends, rows, flow);
+        load_arcs::<false>(&mut self.proposal.ends, rows, flow);
         self.returned = None;
         self.search.may_ascend = true;
         self.search.ascended = false;
@@ -164,6 +165,7 @@ impl Proposals {
                 &mut self.ring,
                 &mut self.sets,
                 search,
+                rows,
                 excess,
             ),
             Aim::GreatestFlow => self.solve_greatest(rows, flow),
@@ -202,10 +204,11 @@ impl Proposals {
     }
 
     /// Leads a flow on to one of least cost, where it is likely that few nodes are out of balance: by searches from
-    /// both sides, and where these take long as from afar. In searches from both sides the return arc is an arc as
-    /// others are, so that a greatest flow is one of least cost; it has room there for a part of what a group may ask
-    /// of it. Potentials are those of the last call but at the nodes that were noted since, and no other node than
-    /// these is out of balance; where `forget_nodes` was called since, all nodes are looked at.
+    /// both sides, and where these take long as from afar, in a network that is parted where it is likely that much can't be
+    /// served. In searches from both sides the return arc is an arc as others are, so that a greatest flow is one of
+    /// least cost; it has room there for a part of what a group may ask of it. Potentials are those of the last call but at
+    /// the nodes that were noted since, and no other node than these is out of balance; where `forget_nodes` was
+    /// called since, all nodes are looked at.
     #[inline(never)] // a name of its own in the program: `bench/count` counts its calls
     pub fn propose_near(
         &mut self,
@@ -221,13 +224,51 @@ impl Proposals {
         requires potentials { length potentials.now ≡ self.old }
         ensures { self.new ≡ self.old }
     {
+        // How many of these were out of balance when the last proposal ended.
+        let mut before: usize = 0;
+        for v in unbalanced {
+            let v = *v as usize;
+            if v < self.entries() && self.proposal.is_to_serve(v) {
+                before = before.saturating_add(1);
+            }
+        }
         self.take_over(rows, flow, excess, potentials, unbalanced);
         let is_done = self.push_near(aim);
         let lacks_room = aim == Aim::GreatestFlow && self.lacks_room(rows, flow);
         if !is_done || lacks_room {
             self.standing = Standing::Apart;
+            if aim == Aim::LeastCost {
+                let least = least_left(&self.proposal, before);
+                if least > 0 {
+                    self.part(rows, flow, excess, potentials, least);
+                }
+            }
             self.solve(rows, flow, excess, aim);
         }
+    }
+
+    /// Begins anew with a flow, what it leaves at each node and potentials, and parts the network where a greatest flow, as if no
+    /// arc cost anything, leaves something at so many nodes: what can't be served does not hold up the others then.
+    fn part(
+        &mut self,
+        rows: &[ArcRow],
+        flow: &[i64],
+        excess: &[i64],
+        potentials: &[i64],
+        least_left: usize,
+    )
+        requires flow { length flow.now ≡ length rows.now }
+        requires excess { length excess.now ≡ self.old }
+        requires potentials { length potentials.now ≡ self.old }
+        ensures { self.new ≡ self.old }
+    {
+        let proposal = &mut self.proposal;
+        proposal.load_nodes(excess, potentials);
+        load_arcs::<true>(&mut proposal.ends, rows, flow);
+        mark_sides(proposal, &mut self.search, least_left);
+        proposal.load_nodes(excess, potentials);
+        load_arcs::<false>(&mut proposal.ends, rows, flow);
+        close_cut(proposal, rows, flow);
     }
 
     /// Whether the return arc, which is the first one, lacks room in the proposal that it has.
@@ -292,7 +333,7 @@ impl Proposals {
     {
         if self.standing == Standing::Fresh {
             // What is wanted is not of this proposal: all arcs are taken over.
-            load_arcs(&mut self.proposal.ends, rows, flow);
+            load_arcs::<false>(&mut self.proposal.ends, rows, flow);
             return;
         }
         if self.returned.is_some() && !rows.is_empty() {
@@ -427,7 +468,7 @@ impl Proposals {
         if !is_renewed {
             self.returned = None;
             self.proposal.moved.open();
-            load_arcs(&mut self.proposal.ends, rows, flow);
+            load_arcs::<false>(&mut self.proposal.ends, rows, flow);
             self.load_between();
             self.noted.open();
             self.standing = Standing::InStep;
@@ -492,7 +533,7 @@ impl Proposals {
 
 /// An arc of such a row, which carries such a flow.
 #[inline(always)]
-fn arc_of(row: &ArcRow, flow: i64) -> Arc {
+pub(crate) fn arc_of(row: &ArcRow, flow: i64) -> Arc {
     Arc {
         tail: row.tail,
         head: row.head,
@@ -503,9 +544,9 @@ fn arc_of(row: &ArcRow, flow: i64) -> Arc {
     }
 }
 
-/// Takes over the rows and the flow of the arcs.
+/// Takes over the rows and the flow of the arcs; where these are to be free, as if none cost anything.
 #[inline(never)] // a name of its own in the program: `bench/count` counts its calls
-fn load_arcs(ends: &mut ResidualEnds, rows: &[ArcRow], flow: &[i64])
+fn load_arcs<const FREE: bool>(ends: &mut ResidualEnds, rows: &[ArcRow], flow: &[i64])
     requires { length flow.now ≡ length rows.now }
     ensures { ends.new ≡ ends.old }
 {
@@ -518,7 +559,9 @@ fn load_arcs(ends: &mut ResidualEnds, rows: &[ArcRow], flow: &[i64])
     let arcs = ends.entered().min(rows.len());
     for j in 0..arcs {
         let k = arcs - 1 - j;
-        ends.enter(k, &arc_of(&rows[k], flow[k]));
+        let arc = arc_of(&rows[k], flow[k]);
+        let cost = if FREE { 0 } else { arc.cost };
+        ends.enter(k, &Arc { cost, ..arc });
     }
 }
 

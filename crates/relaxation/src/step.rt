@@ -167,14 +167,14 @@ fn fill<const AHEAD: bool>(proposal: &mut Proposal, ring: &mut Ring, place: u32)
     wake(proposal, ring, link.other as usize);
 }
 
-/// Lets a node wait for a step if it is out of balance.
+/// Lets a node wait for a step if it is to be served.
 pub fn wake(proposal: &Proposal, ring: &mut Ring, v: usize)
     requires node { v < proposal.now }
     requires ring { ring.old ≡ proposal.now }
     requires few { proposal.now < 2 ^ 32 }
     ensures { ring.new ≡ ring.old }
 {
-    if proposal.rest(v) != 0 {
+    if proposal.is_to_serve(v) {
         ring.add(v);
     }
 }
