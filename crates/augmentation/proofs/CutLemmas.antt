@@ -15,7 +15,8 @@ use Rattle.residual_graph.specs.Walk.{HasCome}
 use Rattle.residual_graph.proofs.RowLemmas.{end_of-in, start_of-in}
 use Rattle.residual_graph.specs.declared.side.Side.{Side}
 use Rattle.residual_graph.specs.declared.side.Side.TheVariants.{Ahead, Behind}
-use Rattle.augmentation.specs.Push.{part_above_0, left}
+use Rattle.flow_changes.specs.Push.{part_above_0, left}
+use Rattle.flow_changes.proofs.PushesLemmas.{left-neg, number_at-neg}
 use Rattle.shortest_paths.specs.declared.predecessor.Predecessor.{Predecessor}
 use Rattle.shortest_paths.specs.Predecessor.{predecessor_at}
 use Rattle.shortest_paths.specs.Search.{IsExhausted, IsReached}
@@ -27,16 +28,6 @@ use Rattle.tracked.specs.Touched.{NameChanges}
 use Rattle.tracked.proofs.TouchedLemmas.{noted_or_not, still_noted}
 
 -- ---- what lies in excess and in deficit
-
-pub number_at-neg : (e : List ℤ) (v : ℕ) → number_at (map neg_ℤ e) v ≡ neg_ℤ (number_at e v)
-number_at-neg [] v = refl
-number_at-neg (z ∷ e) zero = refl
-number_at-neg (z ∷ e) (suc v) = number_at-neg e v
-
--- what lies in excess, where each number is negated, is lacking here
-pub left-neg : (e : List ℤ) → left (map neg_ℤ e) ≡ lack e
-left-neg [] = refl
-left-neg (z ∷ e) = omega (arith, sum_by-cons part_above_0 (neg_ℤ z) (map neg_ℤ e), sum_by-cons (λ (y : ℤ). part_above_0 (neg_ℤ y)) z e, left-neg e)
 
 no_part : (z : ℤ) → (pos 0 <ℤ z → ⊥) → part_above_0 z ≡ 0
 no_part (pos zero) h = refl

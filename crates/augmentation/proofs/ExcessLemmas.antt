@@ -21,8 +21,8 @@ use Rattle.tracked.proofs.TouchedLemmas.{noted_or_not, still_noted}
 use Rattle.tracked.proofs.TrackedLemmas.{AreLeft, AreLeft-all, AreLeft-more, AreLeft-start}
 use Rattle.augmentation.specs.Cut.{amount, amount_of}
 use Rattle.augmentation.specs.Excess.{AreUnbalancedListed, IsBalancedOrListed}
-use Rattle.augmentation.specs.Limits.{left_limit}
-use Rattle.augmentation.specs.Push.{AreSmall}
+use Rattle.flow_changes.specs.Limits.{left_limit}
+use Rattle.flow_changes.specs.Push.{AreSmall}
 use Rattle.augmentation.proofs.SettleLemmas.{lack-small, left-small}
 
 -- a root is out of balance

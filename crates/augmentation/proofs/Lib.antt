@@ -1,12 +1,8 @@
-pub mod PushLemmas
 pub mod PathLemmas
 pub mod SettleLemmas
 pub mod CutLemmas
 pub mod ExcessLemmas
 pub mod NodeLemmas
-pub mod ExchangeLemmas
-pub mod WantedPaths
-pub mod ChangeLemmas
 pub mod CertificateLemmas
 pub mod HeldLemmas
 pub mod NearLemmas

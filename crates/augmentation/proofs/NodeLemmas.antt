@@ -6,9 +6,9 @@ use Rattle.std.proofs.lemmas.Bool.{cases_lt}
 use Rattle.std.proofs.lemmas.List.{get_or_past}
 use Rattle.dimacs_text.specs.declared.problem.ArcRow.{ArcRow}
 use Rattle.network.specs.Flow.{nodes_sum, net, outflow, inflow}
-use Rattle.augmentation.specs.Push.{only_at}
+use Rattle.flow_changes.specs.Push.{only_at}
 use Rattle.augmentation.specs.Nodes.{table, held}
-use Rattle.augmentation.proofs.PushLemmas.{at_other}
+use Rattle.flow_changes.proofs.PushLemmas.{at_other}
 use Rattle.residual_graph.proofs.NodeNumbers.{AllEndsIn, IsNodeOf}
 
 pub length-table : {A : Type 0} (n : ℕ) (f : ℕ → A) → length (table n f) ≡ n

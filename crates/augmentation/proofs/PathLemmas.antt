@@ -12,8 +12,9 @@ use Rattle.residual_graph.specs.Residual.{end_at, number_at, start_at}
 use Rattle.shortest_paths.specs.declared.predecessor.Predecessor.{Predecessor}
 use Rattle.shortest_paths.specs.Predecessor.{rank_at}
 use Rattle.shortest_paths.specs.Search.{AreHung, IsReached}
-use Rattle.augmentation.specs.Push.{HasRoom, IsPath, IsTight, IsTightArc, before, hop_to, hops_before, moved, nodes_on, path_to, push_along, root_of, root_to}
-use Rattle.augmentation.proofs.PushLemmas.{AreApart, Avoids, push_along-set, push_elsewhere}
+use Rattle.flow_changes.specs.Push.{HasRoom, IsPath, IsTight, IsTightArc, moved, nodes_on, push_along}
+use Rattle.augmentation.specs.Path.{before, hop_to, hops_before, path_to, root_of, root_to}
+use Rattle.flow_changes.proofs.PushLemmas.{AreApart, Avoids, push_along-set, push_elsewhere}
 
 AllPairs-nil : {X : Type 0} (R : X → X → Type 0) → AllPairs R []
 AllPairs-nil R i j d h g = absurd (omega arith)

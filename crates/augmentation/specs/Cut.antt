@@ -7,8 +7,8 @@ use Rattle.residual_graph.specs.declared.residual.Way.{Way}
 use Rattle.residual_graph.specs.declared.residual.Way.TheVariants.{Backward, Forward}
 use Rattle.residual_graph.specs.declared.side.Side.{Side}
 use Rattle.residual_graph.specs.declared.side.Side.TheVariants.{Ahead, Behind}
-use Rattle.augmentation.specs.Push.{left, part_above_0}
-pub use Rattle.augmentation.specs.Push.{lack}
+use Rattle.flow_changes.specs.Push.{left, part_above_0}
+pub use Rattle.flow_changes.specs.Push.{lack}
 use Rattle.augmentation.specs.ScratchView.{ScratchView}
 use Rattle.residual_graph.specs.Graph.{GraphView}
 use Rattle.residual_graph.specs.Residual.{number_at, row_at, start_of, end_of, IsResidual}

@@ -1,6 +1,4 @@
-pub mod Limits
 pub mod Nodes
-pub mod Push
 pub mod Path
 pub mod Pseudoflow
 pub mod Pushes
@@ -12,8 +10,6 @@ pub mod Trails
 pub mod Excess
 pub mod Scratch
 pub mod ScratchView
-pub mod Changes
-pub mod Exchange
 pub mod Certificate
 pub mod Held
 pub mod Attempt

@@ -4,7 +4,7 @@ use Rattle.residual_graph.specs.Graph.{GraphView, HasEntries}
 use Rattle.residual_graph.specs.Residual.{ArePotentials, IsReducedCostOptimal}
 use Rattle.shortest_paths.specs.Limits.{label_floor}
 use Rattle.shortest_paths.specs.Tree.{IsForgotten}
-use Rattle.augmentation.specs.Push.{AreSmall}
+use Rattle.flow_changes.specs.Push.{AreSmall}
 use Rattle.augmentation.specs.ScratchView.{ScratchView}
 use Rattle.tracked.specs.Tracked.{TrackedView}
 

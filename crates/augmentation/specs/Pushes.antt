@@ -3,7 +3,7 @@ use Rattle.std.specs.Prelude.{ℕ, ℤ, List}
 use Rattle.residual_graph.specs.Graph.{GraphView}
 use Rattle.tracked.specs.Tracked.{IsWritten, TrackedView}
 use Rattle.augmentation.specs.Pseudoflow.{IsCertifiedIn}
-use Rattle.augmentation.specs.Push.{ArePushesOf}
+use Rattle.flow_changes.specs.Push.{ArePushesOf}
 use Rattle.augmentation.specs.ScratchView.{ScratchView}
 
 -- n pushes lead from flow x with excess e to flow y with excess f, which the labels of the scratch certify

@@ -6,20 +6,20 @@ ghost use Rattle.shortest_paths.specs.Tree.{AreInStep};
 ghost use Rattle.tracked.specs.Journal.{IsSince};
 ghost use Rattle.tracked.specs.Tracked.{IsWritten};
 ghost use Rattle.augmentation.specs.Adoption.{IsCertifiedBy, IsRaisedBy, IsRaisedOrAsBefore};
-ghost use Rattle.augmentation.specs.Attempt.{IsAttemptFor};
+ghost use Rattle.augmentation.specs.Attempt.{AreLed, IsAttemptFor};
 ghost use Rattle.augmentation.specs.Cut.{IsParted};
-ghost use Rattle.augmentation.specs.Exchange.{AreLed, IsBefore, IsJournalFor, flow_before};
+ghost use Rattle.flow_changes.specs.Exchange.{IsBefore, IsJournalFor, flow_before};
 ghost use Rattle.augmentation.specs.Held.{IsHeldIn};
 ghost use Rattle.augmentation.specs.Pseudoflow.{IsReady};
-ghost use Rattle.augmentation.specs.Push.{AreSmall};
+ghost use Rattle.flow_changes.specs.Push.{AreSmall};
 
 use crate::attempt::Attempt;
 use crate::excess::{Excess, note_unbalanced};
-use crate::exchange::{exchange, write_back};
 use crate::near::{note_apart, raise, write_labels, write_raised};
 use crate::potentials::is_renewed;
 use crate::rounds::finish;
 use crate::scratch::Scratch;
+use flow_changes::exchange::{exchange, write_back};
 use residual_graph::Graph;
 use tracked::Tracked;
 

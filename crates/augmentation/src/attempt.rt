@@ -7,8 +7,8 @@ ghost use Rattle.residual_graph.specs.Residual.{IsPseudoflow};
 ghost use Rattle.augmentation.specs.Attempt.{IsAttemptFor};
 
 use crate::excess::Excess;
-use crate::trial::Trial;
 use containers::both;
+use flow_changes::Trial;
 use proposals::{Aim, Proposals, Wanted};
 use residual_graph::Graph;
 use std::alloc::{AllocError, Global};

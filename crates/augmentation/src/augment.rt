@@ -5,7 +5,7 @@ ghost use Rattle.std.specs.Int.{w64};
 ghost use Rattle.std.specs.Prelude.{◌≡◌, ◌≢◌, FitsSigned, IsTrue, false, length, pos, neg_ℤ, ◌≤ℤ◌, ◌<ℤ◌, ◌<◌};
 ghost use Rattle.residual_graph.specs.Residual.{number_at};
 ghost use Rattle.augmentation.specs.Path.{AugmentsOn, CanGiveOn, HasRoomOn, HavePathsOn, IsFlowFor, IsHungPath, IsMovedOn, root_on};
-ghost use Rattle.augmentation.specs.Push.{AreSmall, IsTransfer, moved};
+ghost use Rattle.flow_changes.specs.Push.{AreSmall, IsTransfer, moved};
 ghost use Rattle.tracked.specs.Tracked.{IsWritten};
 
 use residual_graph::{Graph, Way};

@@ -4,8 +4,8 @@ ghost use Rattle.std.specs.Prelude.{◌≡◌, ℕ, ◌<◌, ◌≤◌, pos, neg
 ghost use Rattle.residual_graph.specs.Limits.{entry_limit, row_limit};
 ghost use Rattle.augmentation.specs.Cut.{HasNoDeficit, amount, amount_of, lack};
 ghost use Rattle.augmentation.specs.Excess.{AreUnbalancedListed, IsBalancedOrListed};
-ghost use Rattle.augmentation.specs.Limits.{excess_limit};
-ghost use Rattle.augmentation.specs.Push.{AreSmall, left};
+ghost use Rattle.flow_changes.specs.Limits.{excess_limit};
+ghost use Rattle.flow_changes.specs.Push.{AreSmall, left};
 ghost use Rattle.tracked.specs.Marks.{in_set};
 
 use residual_graph::Side;

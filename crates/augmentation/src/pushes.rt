@@ -4,7 +4,7 @@ ghost use Rattle.std.specs.Prelude.{◌<◌, ◌<ℤ◌, IsTrue, length, pos};
 ghost use Rattle.residual_graph.specs.Residual.{number_at};
 ghost use Rattle.augmentation.specs.Found.{HasFoundIn};
 ghost use Rattle.augmentation.specs.Pseudoflow.{IsCertifiedIn};
-ghost use Rattle.augmentation.specs.Push.{one_if};
+ghost use Rattle.flow_changes.specs.Push.{one_if};
 ghost use Rattle.augmentation.specs.Pushes.{HavePushed};
 ghost use Rattle.shortest_paths.specs.Search.{IsReached};
 ghost use Rattle.shortest_paths.specs.Tree.{IsForestOf};

@@ -7,7 +7,7 @@ ghost use Rattle.augmentation.specs.Cut.{IsParted};
 ghost use Rattle.augmentation.specs.Found.{HasFoundIn, IsFoundOrParted};
 ghost use Rattle.augmentation.specs.Held.{IsHeldIn};
 ghost use Rattle.augmentation.specs.Pseudoflow.{IsCertifiedIn, IsCertifiedPseudoflow};
-ghost use Rattle.augmentation.specs.Push.{ArePushesOf};
+ghost use Rattle.flow_changes.specs.Push.{ArePushesOf};
 ghost use Rattle.augmentation.specs.Pushes.{HavePushed};
 
 use crate::excess::Excess;

@@ -15,10 +15,10 @@ use Rattle.network.proofs.Circulation.{zero_bounds, zero_net}
 use Rattle.network.proofs.Reduction.{made, rows_of, reduced_ends, certified_is_best, breach_rules_out, from_reduced}
 use Rattle.flow_solver.specs.declared.verdict.Verdict.{Verdict}
 use Rattle.flow_solver.specs.declared.verdict.Verdict.TheVariants.{Best, Infeasible}
-use Rattle.augmentation.specs.Limits.{supply_limit}
+use Rattle.flow_changes.specs.Limits.{supply_limit}
 use Rattle.shortest_paths.specs.Limits.{label_floor}
 use Rattle.residual_graph.specs.Residual.{IsReducedCostOptimal, ArePotentials, number_at, row_at}
-use Rattle.augmentation.specs.Push.{AreSmall, IsExcess, part_above_0, left, cap_total}
+use Rattle.flow_changes.specs.Push.{AreSmall, IsExcess, part_above_0, left, cap_total}
 use Rattle.augmentation.specs.Cut.{lack, IsParted, IsSideOfCut}
 use Rattle.augmentation.proofs.CutLemmas.{lack-none, none_above}
 use Rattle.residual_graph.specs.declared.side.Side.TheVariants.{Ahead, Behind}

@@ -16,15 +16,15 @@ use Rattle.network.specs.Flow.{flow_sum, net, total_cost, AllWithinBounds}
 use Rattle.network.specs.Instance.{Instance, IsLawful, reduced}
 use Rattle.network.proofs.IntegerAlgebra.{linear, mul-sub, neg-mul, sub-mul}
 use Rattle.network.proofs.RunningSums.{abs-add}
-use Rattle.augmentation.specs.Limits.{excess_limit}
+use Rattle.flow_changes.specs.Limits.{excess_limit}
 use Rattle.residual_graph.specs.Residual.{IsPseudoflow, IsRow, IsWithinRow, row_at, number_at}
 use Rattle.augmentation.specs.Nodes.{held}
 use Rattle.tracked.specs.Touched.{NameChanges}
-use Rattle.augmentation.specs.Push.{AreSmall, IsExcess, only_at}
+use Rattle.flow_changes.specs.Push.{AreSmall, IsExcess, only_at}
 use Rattle.flow_solver.specs.Balance.{IsCarried, IsRaised, IsWrappedCost, IsWrappedExcess, gain}
 use Rattle.residual_graph.proofs.Pseudoflows.{flow_of_instance}
 use Rattle.flow_solver.proofs.ExcessLemmas.{at_zero, excess_small}
-use Rattle.augmentation.proofs.PushLemmas.{at_same, at_other}
+use Rattle.flow_changes.proofs.PushLemmas.{at_same, at_other}
 
 -- ---- the table
 

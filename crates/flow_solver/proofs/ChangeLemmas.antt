@@ -13,13 +13,13 @@ use Rattle.network.specs.Edited.{with_last}
 use Rattle.network.specs.Instance.{Demand, Supplies, Terminals, Instance, IsLawful, DemandFits, at_node, kind_of, numbered_flow, reduced, reduced_arcs, reduced_supply, with_supply}
 use Rattle.network.proofs.Sums.{nodes_sum-add, nodes_sum-le, nodes_sum-one}
 use Rattle.residual_graph.specs.Residual.{number_at, row_at}
-use Rattle.augmentation.specs.Push.{only_at as at_one}
+use Rattle.flow_changes.specs.Push.{only_at as at_one}
 use Rattle.augmentation.specs.Nodes.{held}
 use Rattle.flow_solver.specs.Edit.{IsNearest}
 use Rattle.flow_solver.specs.TablesView.{flow_index, supplies_in}
 use Rattle.residual_graph.proofs.NodeNumbers.{IsNodeOf, is_node_or_not}
 use Rattle.augmentation.proofs.NodeLemmas.{held_node, held_other}
-use Rattle.augmentation.proofs.PushLemmas.{at_same, at_other}
+use Rattle.flow_changes.proofs.PushLemmas.{at_same, at_other}
 use Rattle.flow_solver.proofs.ExcessLemmas.{at_node_bounds}
 use Rattle.flow_solver.proofs.BalanceLemmas.{net-push, net-set, net-set_row}
 use Rattle.residual_graph.proofs.GraphLemmas.{with_row}

@@ -10,9 +10,9 @@ use Rattle.network.specs.Instance.{Demand, Supplies, Terminals, Sides, Instance,
 use Rattle.residual_graph.specs.Residual.{IsPseudoflow, number_at, row_at}
 use Rattle.residual_graph.proofs.NodeNumbers.{IsNodeOf, is_node_or_not}
 use Rattle.residual_graph.proofs.Pseudoflows.{flow_of_instance}
-use Rattle.augmentation.specs.Limits.{cap_sum_limit, excess_limit, supply_limit}
+use Rattle.flow_changes.specs.Limits.{cap_sum_limit, excess_limit, supply_limit}
 use Rattle.augmentation.specs.Nodes.{held}
-use Rattle.augmentation.specs.Push.{only_at, part_above_0, cap_total}
+use Rattle.flow_changes.specs.Push.{only_at, part_above_0, cap_total}
 use Rattle.augmentation.proofs.NodeLemmas.{held_node, held_other}
 
 pub at_node_bounds : (u : ℕ) (m : ℤ) (v : ℕ) → pos 0 ≤ℤ m → (pos 0 ≤ℤ only_at u m v) × (only_at u m v ≤ℤ m)

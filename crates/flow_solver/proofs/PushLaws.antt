@@ -9,7 +9,7 @@ use Rattle.network.proofs.Sums.{nodes_sum-same}
 use Rattle.residual_graph.specs.Residual.{number_at}
 use Rattle.residual_graph.specs.declared.side.Side.{Side}
 use Rattle.residual_graph.specs.declared.side.Side.TheVariants.{Ahead, Behind}
-use Rattle.augmentation.specs.Push.{IsExcess, IsPush, Pushes, part_above_0, left}
+use Rattle.flow_changes.specs.Push.{IsExcess, IsPush, Pushes, part_above_0, left}
 use Rattle.augmentation.specs.Cut.{amount, lack}
 use Rattle.augmentation.specs.Nodes.{held}
 use Rattle.augmentation.proofs.CutLemmas.{none_above, lack-none}

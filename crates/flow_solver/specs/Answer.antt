@@ -7,7 +7,7 @@ use Rattle.flow_solver.specs.declared.verdict.Verdict.{Verdict}
 use Rattle.flow_solver.specs.declared.verdict.Verdict.TheVariants.{Best, Infeasible}
 use Rattle.flow_solver.specs.Moment.{IsWellFormed, Moment}
 use Rattle.residual_graph.specs.Residual.{number_at}
-use Rattle.augmentation.specs.Push.{left}
+use Rattle.flow_changes.specs.Push.{left}
 use Rattle.augmentation.specs.Cut.{lack}
 
 -- the numbered arcs of a flow of the reduced instance carry a best flow of this worth, the return arc what the source sends out, and no node is marked

@@ -8,7 +8,7 @@ use Rattle.network.specs.Instance.{Instance, reduced}
 use Rattle.flow_solver.specs.declared.balance.Balance.{Balance}
 use Rattle.tracked.specs.Tracked.{TrackedView}
 use Rattle.augmentation.specs.Nodes.{held}
-use Rattle.augmentation.specs.Push.{only_at}
+use Rattle.flow_changes.specs.Push.{only_at}
 
 -- e holds the numbers as they wrap
 abbrev pub AreWrapped : (ℕ → ℤ) → List ℤ → Type 0

@@ -10,7 +10,7 @@ use Rattle.dimacs_text.specs.declared.problem.Kind.TheVariants.{Min}
 use Rattle.dimacs_text.specs.declared.command.Edit.{Edit}
 use Rattle.dimacs_text.specs.declared.command.Edit.TheVariants.{Cap, Low, Cost, Supply, Add, Close}
 use Rattle.residual_graph.specs.Residual.{number_at, row_at, IsWithinRow}
-use Rattle.augmentation.specs.Push.{Pushes}
+use Rattle.flow_changes.specs.Push.{Pushes}
 use Rattle.flow_solver.specs.Moment.{Moment}
 use Rattle.flow_solver.specs.Part.{OfArc, place_of_edit}
 use Rattle.flow_solver.specs.TablesView.{TablesView, flow_index}

@@ -6,5 +6,5 @@ pub mod TablesView
 pub mod Part
 pub mod Tables
 pub mod Balance
-pub use Rattle.augmentation.specs.Push
+pub use Rattle.flow_changes.specs.Push
 pub use Rattle.tracked.specs.Touched

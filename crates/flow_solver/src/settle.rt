@@ -4,7 +4,7 @@ ghost use Rattle.std.specs.Prelude.{◌≡◌, ℕ, ℤ, IsTrue, drop, false, le
 ghost use Rattle.network.specs.Flow.{IsGreatestPotential};
 ghost use Rattle.network.specs.Instance.{at_node, reduced};
 ghost use Rattle.augmentation.specs.Pseudoflow.{IsReady};
-ghost use Rattle.augmentation.specs.Push.{ArePushes};
+ghost use Rattle.flow_changes.specs.Push.{ArePushes};
 ghost use Rattle.tracked.specs.Tracked.{IsWritten};
 ghost use Rattle.flow_solver.specs.Potentials.{AreAsTold, KeepStep};
 ghost use Rattle.augmentation.specs.Cut.{IsParted, AreOnSide};

@@ -23,9 +23,9 @@ use Rattle.residual_graph.specs.declared.residual.ResidualArc.{ResidualArc}
 use Rattle.residual_graph.specs.declared.residual.Way.{Way}
 use Rattle.residual_graph.specs.declared.residual.Way.TheVariants.{Forward, Backward}
 use Rattle.residual_graph.specs.Residual.{number_at, row_at, start_at}
-use Rattle.augmentation.specs.Push.{IsPath, IsPush, IsShift, Pushes, only_at, moved, push_along}
-use Rattle.augmentation.proofs.ChangeLemmas.{apart_of}
-use Rattle.augmentation.proofs.PushLemmas.{AreApart, IsShift-along, at_other, at_same, net-along}
+use Rattle.flow_changes.specs.Push.{IsPath, IsPush, IsShift, Pushes, only_at, moved, push_along}
+use Rattle.flow_changes.proofs.ChangeLemmas.{apart_of}
+use Rattle.flow_changes.proofs.PushLemmas.{AreApart, IsShift-along, at_other, at_same, net-along}
 use Rattle.flow_solver.specs.declared.verdict.Verdict.{Verdict}
 use Rattle.flow_solver.specs.declared.verdict.Verdict.TheVariants.{Best, Infeasible}
 use Rattle.flow_solver.specs.Answer.{IsAnswered, IsVerdict}

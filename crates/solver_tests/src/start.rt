@@ -2,7 +2,7 @@
 
 ghost use Rattle.std.specs.Prelude.{◌≡◌, ◌<◌, ℕ, IsTrue, length};
 ghost use Rattle.residual_graph.specs.Residual.{IsPseudoflow, IsRow, IsWithinRow, number_at, row_at};
-ghost use Rattle.augmentation.specs.Push.{AreSmall};
+ghost use Rattle.flow_changes.specs.Push.{AreSmall};
 ghost use Rattle.augmentation.specs.Pseudoflow.{IsReady};
 
 use augmentation::certifies;

@@ -3,12 +3,12 @@ use Rattle.residual_graph.specs.Graph.{HasEntries}
 use Rattle.residual_graph.specs.Residual.{IsPseudoflow}
 use Rattle.shortest_paths.specs.Tree.{AreInStep, TreeView}
 use Rattle.augmentation.specs.Certificate.{AreCertifying}
-use Rattle.augmentation.specs.Exchange.{IsExchange}
+use Rattle.flow_changes.specs.Exchange.{IsExchange}
 use Rattle.augmentation.specs.ScratchView.{ScratchView}
 use Rattle.augmentation.specs.Settle.{AreShortest}
 use Rattle.augmentation.proofs.CertificateLemmas.{within_potentials}
-use Rattle.augmentation.proofs.ChangeLemmas.{pushes_of_change}
-use Rattle.augmentation.proofs.ExchangeLemmas.{small_nearer}
+use Rattle.flow_changes.proofs.ChangeLemmas.{pushes_of_change}
+use Rattle.flow_changes.proofs.ExchangeLemmas.{small_nearer}
 use Rattle.augmentation.proofs.HeldLemmas.{held_by, shortest_of}
 use Rattle.augmentation.proofs.adoption.adopt.Goals as goal
 

@@ -1,7 +1,8 @@
 use Rattle.std.proofs.Common.{◌≤◌, ◌<◌, ◌+◌, ◌^◌, length, arith, rules}
-use Rattle.augmentation.specs.Limits.{left_limit}
-use Rattle.augmentation.specs.Push.{left}
-use Rattle.augmentation.proofs.SettleLemmas.{ArePushes-more, left-small}
+use Rattle.flow_changes.specs.Limits.{left_limit}
+use Rattle.flow_changes.specs.Push.{left}
+use Rattle.flow_changes.proofs.PushesLemmas.{ArePushes-more}
+use Rattle.augmentation.proofs.SettleLemmas.{left-small}
 use Rattle.augmentation.proofs.adoption.push_all.Goals as goal
 
 pub overflow_add-result : goal.overflow_add-result

@@ -1,7 +1,7 @@
 use Rattle.std.proofs.Common.{ap, arith}
 use Rattle.std.proofs.lemmas.Int.{ints, clamps}
 use Rattle.residual_graph.specs.Residual.{number_at}
-use Rattle.augmentation.proofs.PushLemmas.{HasRoom-weaker}
+use Rattle.flow_changes.proofs.PushLemmas.{HasRoom-weaker}
 use Rattle.augmentation.proofs.augment.amount_along.Goals as goal
 
 pub returns-clause-in_deficit : goal.returns-clause-in_deficit

@@ -7,9 +7,9 @@ use Rattle.residual_graph.specs.declared.residual.Way.TheVariants.{Backward, For
 use Rattle.residual_graph.specs.Residual.{IsWithinRow, number_at, room_of, row_at, start_of}
 use Rattle.shortest_paths.specs.Predecessor.{rank_at}
 use Rattle.shortest_paths.specs.Search.{IsReached}
-use Rattle.augmentation.specs.Push.{before, hop_to, hops_before, root_to}
+use Rattle.augmentation.specs.Path.{before, hop_to, hops_before, root_to}
 use Rattle.augmentation.proofs.PathLemmas.{root_back, step_back}
-use Rattle.augmentation.proofs.PushLemmas.{HasRoom-weaker}
+use Rattle.flow_changes.proofs.PushLemmas.{HasRoom-weaker}
 use Rattle.augmentation.proofs.augment.bottleneck.Goals as goal
 
 room_at_least_0 : (a : ArcRow) (x : ℤ) (way : Way) → IsWithinRow a x → pos 0 ≤ℤ room_of a x way

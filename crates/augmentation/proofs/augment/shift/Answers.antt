@@ -5,9 +5,10 @@ use Rattle.std.specs.Prelude.{slice_index_or}
 use Rattle.residual_graph.specs.declared.residual.ResidualArc.{ResidualArc}
 use Rattle.residual_graph.specs.Residual.{IsWithinRow, number_at, row_at, start_at}
 use Rattle.shortest_paths.specs.Predecessor.{rank_at}
-use Rattle.augmentation.specs.Push.{HasRoom, before, hop_to, hops_before, moved}
+use Rattle.flow_changes.specs.Push.{HasRoom, moved}
+use Rattle.augmentation.specs.Path.{before, hop_to, hops_before}
 use Rattle.augmentation.proofs.PathLemmas.{IsOnward, onward_more, push_before, room_after, step_back}
-use Rattle.augmentation.proofs.PushLemmas.{IsWithin-moved, push_elsewhere}
+use Rattle.flow_changes.proofs.PushLemmas.{IsWithin-moved, push_elsewhere}
 use Rattle.tracked.proofs.TrackedLemmas.{IsWritten-trans}
 use Rattle.augmentation.proofs.augment.shift.Goals as goal
 use Rattle.augmentation.proofs.augment.shift.Goals.{After-get}

@@ -2,7 +2,7 @@ use Rattle.std.proofs.Common.{◌≡◌, ◌-ℤ◌, arith, pos, sym, w64, to_z,
 use Rattle.std.proofs.lemmas.Int.{ints}
 use Rattle.std.proofs.lemmas.List.{get_or-set_other}
 use Rattle.residual_graph.specs.Residual.{number_at}
-use Rattle.augmentation.proofs.PushLemmas.{IsTransfer-put}
+use Rattle.flow_changes.proofs.PushLemmas.{IsTransfer-put}
 use Rattle.augmentation.proofs.augment.transfer.Goals as goal
 
 pub returns : goal.returns

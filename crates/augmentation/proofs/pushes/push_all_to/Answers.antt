@@ -1,6 +1,6 @@
 use Rattle.std.proofs.Common.{◌≡◌, ◌+◌, ◌^◌, ◌<◌, ℕ, arith, rules, subst}
 use Rattle.std.specs.Prelude.{Bool, true}
-use Rattle.augmentation.specs.Push.{one_if}
+use Rattle.flow_changes.specs.Push.{one_if}
 use Rattle.augmentation.specs.Pushes.{HavePushed}
 use Rattle.augmentation.proofs.SettleLemmas.{HavePushed-more, HavePushed-none, count_fits}
 use Rattle.augmentation.proofs.pushes.push_all_to.Goals as goal

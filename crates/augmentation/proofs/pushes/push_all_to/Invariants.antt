@@ -1,5 +1,5 @@
 use Rattle.shortest_paths.specs.Tree.{IsForestOf}
-use Rattle.augmentation.specs.Push.{left}
+use Rattle.flow_changes.specs.Push.{left}
 use Rattle.augmentation.specs.Pushes.{HavePushed}
 use Rattle.augmentation.proofs.pushes.push_all_to.Given as goal
 

@@ -6,7 +6,8 @@ use Rattle.residual_graph.specs.Residual.{number_at}
 use Rattle.shortest_paths.specs.declared.predecessor.Predecessor.{Predecessor}
 use Rattle.shortest_paths.specs.Search.{HavePaths}
 use Rattle.augmentation.specs.Pseudoflow.{IsCertifiedPseudoflow}
-use Rattle.augmentation.specs.Push.{ArePushes, IsAugmented, one_if, root_to}
+use Rattle.flow_changes.specs.Push.{ArePushes, one_if}
+use Rattle.augmentation.specs.Path.{IsAugmented, root_to}
 use Rattle.augmentation.specs.ScratchView.{ScratchView}
 use Rattle.augmentation.proofs.SettleLemmas.{IsPushedOn, pushed_on, root_in_excess}
 use Rattle.augmentation.proofs.pushes.push_to.Goals as goal

@@ -1,7 +1,8 @@
 use Rattle.std.proofs.Common.{◌<◌, ◌∙◌, ◌+◌, ◌^◌, ℤ, List, arith, rules, sym, subst}
 use Rattle.std.proofs.lemmas.Bool.{false≢true}
 use Rattle.augmentation.specs.Pseudoflow.{IsCertifiedPseudoflow}
-use Rattle.augmentation.proofs.SettleLemmas.{ArePushes-more, HavePushed-more, HavePushed-none, count_fits}
+use Rattle.flow_changes.proofs.PushesLemmas.{ArePushes-more}
+use Rattle.augmentation.proofs.SettleLemmas.{HavePushed-more, HavePushed-none, count_fits}
 use Rattle.augmentation.proofs.CutLemmas.{parted_unless_both}
 use Rattle.augmentation.proofs.rounds.finish.Goals as goal
 

@@ -1,4 +1,4 @@
-use Rattle.augmentation.specs.Push.{left}
+use Rattle.flow_changes.specs.Push.{left}
 use Rattle.augmentation.specs.Pushes.{HavePushed}
 use Rattle.augmentation.proofs.rounds.finish.Given as goal
 

@@ -1,6 +1,7 @@
 use Rattle.std.proofs.Common.{◌+◌, ◌^◌, ◌<◌, arith, rules, subst, sym}
 use Rattle.augmentation.specs.Pseudoflow.{IsCertifiedIn}
-use Rattle.augmentation.proofs.SettleLemmas.{ArePushes-more, HavePushed-more, HavePushed-none, count_fits}
+use Rattle.flow_changes.proofs.PushesLemmas.{ArePushes-more}
+use Rattle.augmentation.proofs.SettleLemmas.{HavePushed-more, HavePushed-none, count_fits}
 use Rattle.augmentation.proofs.rounds.push_by_levels.Goals as goal
 
 pub loop-scratch-init : goal.loop-scratch-init

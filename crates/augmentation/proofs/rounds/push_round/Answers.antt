@@ -1,8 +1,9 @@
 use Rattle.std.proofs.Common.{◌+◌, ◌^◌, ◌<◌, arith, rules, subst}
 use Rattle.std.specs.Prelude.{Bool}
-use Rattle.augmentation.specs.Push.{one_if}
+use Rattle.flow_changes.specs.Push.{one_if}
 use Rattle.augmentation.specs.Pushes.{HavePushed}
-use Rattle.augmentation.proofs.SettleLemmas.{ArePushes-more, HavePushed-more, count_fits}
+use Rattle.flow_changes.proofs.PushesLemmas.{ArePushes-more}
+use Rattle.augmentation.proofs.SettleLemmas.{HavePushed-more, count_fits}
 use Rattle.augmentation.proofs.rounds.push_round.Goals as goal
 use Rattle.augmentation.proofs.rounds.push_round.Goals.{After-push_to}
 

@@ -1,10 +1,11 @@
 use Rattle.std.proofs.Common.{◌≡◌, ◌≤◌, ◌<◌, ◌∙◌, ◌+◌, ◌^◌, ℤ, List, ap, arith, length, rules, subst, sym}
 use Rattle.std.proofs.lemmas.Bool.{false≢true}
 use Rattle.residual_graph.specs.Residual.{IsPseudoflow}
-use Rattle.augmentation.specs.Limits.{left_limit}
-use Rattle.augmentation.specs.Push.{ArePushes, left}
+use Rattle.flow_changes.specs.Limits.{left_limit}
+use Rattle.flow_changes.specs.Push.{ArePushes, left}
 use Rattle.augmentation.proofs.CutLemmas.{parted_unless_both}
-use Rattle.augmentation.proofs.SettleLemmas.{ArePushes-more, left-small}
+use Rattle.flow_changes.proofs.PushesLemmas.{ArePushes-more}
+use Rattle.augmentation.proofs.SettleLemmas.{left-small}
 use Rattle.flow_solver.proofs.FlowLaws.{greatest_of}
 use Rattle.flow_solver.proofs.settle.push_and_raise.Goals as goal
 

@@ -1,6 +1,6 @@
 use Rattle.std.proofs.Common.{ℕ, ◌<◌, pos, neg_ℤ, ◌≤ℤ◌}
 use Rattle.residual_graph.specs.Residual.{number_at}
-use Rattle.augmentation.specs.Limits.{excess_limit}
+use Rattle.flow_changes.specs.Limits.{excess_limit}
 use Rattle.solver_tests.proofs.start.are_small.Given as goal
 
 abbrev pub invariant-loop-e : goal.invariant-loop-e

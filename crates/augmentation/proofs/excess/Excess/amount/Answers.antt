@@ -3,7 +3,7 @@ use Rattle.std.proofs.lemmas.Int.{to_z-of_z}
 use Rattle.std.proofs.lemmas.List.{get_or_read}
 use Rattle.residual_graph.specs.Residual.{number_at}
 use Rattle.augmentation.specs.Cut.{amount, amount_of}
-use Rattle.augmentation.specs.Push.{AreSmall}
+use Rattle.flow_changes.specs.Push.{AreSmall}
 use Rattle.tracked.specs.NodeLists.{node_at}
 use Rattle.tracked.proofs.TouchedLemmas.{noted_in}
 use Rattle.augmentation.proofs.ExcessLemmas.{IsCounted, IsCounted-all, IsCounted-more, IsCounted-none, amount-small}

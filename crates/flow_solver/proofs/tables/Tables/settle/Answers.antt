@@ -3,7 +3,7 @@ use Rattle.std.proofs.lemmas.Int.{ints}
 use Rattle.network.specs.Flow.{IsCertifiedFlow}
 use Rattle.network.specs.Instance.{at_node, reduced}
 use Rattle.network.proofs.Reduction.{reduced_ends}
-use Rattle.augmentation.specs.Push.{IsExcess}
+use Rattle.flow_changes.specs.Push.{IsExcess}
 use Rattle.flow_solver.specs.Balance.{IsBalanceOf}
 use Rattle.flow_solver.specs.Answer.{IsJudged, reduced_worth}
 use Rattle.augmentation.specs.Nodes.{held}

@@ -1,0 +1,5 @@
+pub mod PushLemmas
+pub mod PushesLemmas
+pub mod ExchangeLemmas
+pub mod WantedPaths
+pub mod ChangeLemmas

@@ -1,0 +1,4 @@
+pub mod Limits
+pub mod Push
+pub mod Changes
+pub mod Exchange
