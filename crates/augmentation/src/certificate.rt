@@ -2,7 +2,7 @@
 
 ghost use Rattle.std.specs.Prelude.{◌↔◌, ◌<◌, IsTrue, length};
 ghost use Rattle.residual_graph.specs.Residual.{IsPseudoflow, IsRow, IsWithinRow};
-ghost use Rattle.augmentation.specs.Certificate.{AreCertifying, AreInRange, IsNoneBelowAt, KeepsArc};
+ghost use Rattle.augmentation.specs.Certificate.{AreCertifying, AreInRange, KeepsArc, KeepsRow};
 
 use dimacs_text::ArcRow;
 use residual_graph::{Graph, Way};
@@ -23,30 +23,32 @@ pub(crate) fn are_in_range(potentials: &[i64]) -> bool
     true
 }
 
-/// Whether the residual arc in this way along an arc is not there, or costs no less than what the potentials pay for it.
-fn keeps_way(row: &ArcRow, flow: i64, potentials: &[i64], way: Way) -> bool
+/// Whether an arc's flow follows the sign of its reduced cost: then no residual arc along it costs less than what the potentials
+/// pay for it.
+fn keeps_row(row: &ArcRow, flow: i64, potentials: &[i64]) -> bool
     requires row { IsRow (length potentials.now) row.now }
     requires within { IsWithinRow row.now flow }
     requires potentials { AreInRange potentials.now }
-    ensures { IsTrue result ↔ IsNoneBelowAt row.now flow potentials.now way }
+    ensures { IsTrue result ↔ KeepsRow row.now flow potentials.now }
 {
-    if way.room(row, flow) <= 0 {
-        return true;
+    let reduced = reduced_along(row, potentials, Way::Forward);
+    if reduced > 0 {
+        flow == row.low
+    } else if reduced < 0 {
+        flow == row.cap
+    } else {
+        true
     }
-    let reduced = reduced_along(row, potentials, way);
-    reduced >= 0
 }
 
-/// Whether this is so of both residual arcs along the arc in a row.
+/// Whether this is so of the arc in a row.
 pub(crate) fn keeps_arc(graph: &Graph, flow: &[i64], potentials: &[i64], k: usize) -> bool
     requires arc { k < length graph.now.rows }
     requires flow { IsPseudoflow (length potentials.now) graph.now.rows flow.now }
     requires potentials { AreInRange potentials.now }
     ensures { IsTrue result ↔ KeepsArc graph.now.rows flow.now potentials.now k }
 {
-    let row = graph.row(k);
-    keeps_way(&row, flow[k], potentials, Way::Forward)
-        && keeps_way(&row, flow[k], potentials, Way::Backward)
+    keeps_row(&graph.row(k), flow[k], potentials)
 }
 
 /// Whether potentials certify a flow: each is in the range with which a run of pushes begins, and no residual arc has a

@@ -448,16 +448,20 @@ impl Front {
         meeting
     }
 
-    /// Writes down a path to a node, if it is the best so far and shorter than the way across; gives the shortest path
-    /// across.
+    /// Writes down a path to a node, if it is the best so far and can be part of a shorter way across; gives the shortest
+    /// path across.
     #[inline(always)]
     fn note(&mut self, v: usize, label: Label, other: &Front, meeting: Meeting) -> Meeting
         requires other { other.now ≡ self.old }
         requires node { v < self.old }
         ensures { self.new ≡ self.old }
     {
-        let known = self.key(v);
-        if label.key >= known || label.key >= meeting.length {
+        if label.key >= meeting.length || label.key >= self.key(v) {
+            return meeting;
+        }
+        // The other side comes to a node that it has not settled over no shorter path than so far.
+        let beyond = other.last.min(other.key(v));
+        if label.key + beyond >= meeting.length {
             return meeting;
         }
         self.labels[v] = label;

@@ -5,13 +5,11 @@ use Rattle.residual_graph.specs.Residual.{number_at, row_at}
 use Rattle.augmentation.specs.Certificate.{KeepsRow}
 use Rattle.augmentation.proofs.certificate.keeps_arc.Goals as goal
 
-pub returns-then-keeps_way : goal.returns-then-keeps_way
-returns-then-keeps_way c =
+pub returns : goal.returns
+returns c =
     let x = c.args.flow.now in
     let p = c.args.potentials.now in
     let k = c.args.k in
     let fits : SFits w64 (number_at x k) = search rules in
-    let both : IsTrue c.keeps_way-then-keeps_way.result ↔ KeepsRow c.row-row.result (to_z w64 (of_z w64 (number_at x k))) p =
-    (λ yes. (c.keeps_way.ensures.0 c.if-keeps_way.true, c.keeps_way-then-keeps_way.ensures.0 yes), λ kept. c.keeps_way-then-keeps_way.ensures.1 kept.1) in
-    subst (λ (z : ℤ). IsTrue c.keeps_way-then-keeps_way.result ↔ KeepsRow (row_at c.args.graph.now.rows k) z p) (to_z-of_z w64 (number_at x k) fits)
-    (subst (λ (a : ArcRow). IsTrue c.keeps_way-then-keeps_way.result ↔ KeepsRow a (to_z w64 (of_z w64 (number_at x k))) p) c.row-row.ensures both)
+    subst (λ (z : ℤ). IsTrue c.keeps_row.result ↔ KeepsRow (row_at c.args.graph.now.rows k) z p) (to_z-of_z w64 (number_at x k) fits)
+    (subst (λ (a : ArcRow). IsTrue c.keeps_row.result ↔ KeepsRow a (to_z w64 (of_z w64 (number_at x k))) p) c.row.ensures c.keeps_row.ensures)
