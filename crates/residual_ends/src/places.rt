@@ -4,6 +4,7 @@ ghost use Rattle.std.specs.Prelude.{◌≡◌, ◌<◌, IfSome, IsTrue};
 
 use crate::arc::Arc;
 use crate::link::Link;
+use crate::span::Borders;
 use crate::table::ResidualEnds;
 
 impl ResidualEnds {
@@ -49,21 +50,27 @@ impl ResidualEnds {
         self.entered = self.entered.saturating_sub(1);
     }
 
-    /// Takes the end at this place out of a node's links: the last one with room both ways gets its place, if it is one of
-    /// them, and the last one of all the place that is free then.
+    /// Takes the end at this place out of a node's links: the last one of its part gets its place, the last one of the next
+    /// part the place that is free then, and so on.
     fn take_end_out(&mut self, v: usize, place: u32)
         requires { v < self.old }
         ensures { self.new ≡ self.old }
     {
         let span = self.spans[v];
-        let border = self.border(v, span);
+        let mut borders = self.borders_of(v, span);
         let last = span.end.saturating_sub(1);
         let mut gap = place;
-        if place < border {
-            gap = border.saturating_sub(1);
-            self.set_border(v, gap);
-            self.move_link(gap, place);
+        if gap < borders.free {
+            borders.free = borders.free.saturating_sub(1);
+            self.move_link(borders.free, gap);
+            gap = borders.free;
         }
+        if gap < borders.leaving {
+            borders.leaving = borders.leaving.saturating_sub(1);
+            self.move_link(borders.leaving, gap);
+            gap = borders.leaving;
+        }
+        self.set_borders(v, borders);
         self.set_span(v, span.first, last);
         self.move_link(last, gap);
     }
@@ -118,32 +125,40 @@ impl ResidualEnds {
         (self.spans[v].end as usize) < next
     }
 
-    /// Moves a node's links by one place, into the free one behind them: the first one of either part goes behind it.
+    /// Moves a node's links by one place, into the free one behind them: the first one of each part goes behind it.
     fn move_up(&mut self, v: usize)
         requires { v < self.old }
         ensures { self.new ≡ self.old }
     {
         let span = self.spans[v];
-        let border = self.border(v, span);
+        let Borders { free, leaving } = self.borders_of(v, span);
         self.set_span(v, span.first.saturating_add(1), span.end.saturating_add(1));
-        self.set_border(v, border.saturating_add(1));
-        self.move_link(border, span.end);
-        self.move_link(span.first, border);
+        let after = Borders {
+            free: free.saturating_add(1),
+            leaving: leaving.saturating_add(1),
+        };
+        self.set_borders(v, after);
+        self.move_link(leaving, span.end);
+        self.move_link(free, leaving);
+        self.move_link(span.first, free);
     }
 
-    /// The same into the free place before them: the last one of either part goes before it.
+    /// The same into the free place before them: the last one of each part goes before it.
     fn move_down(&mut self, v: usize)
         requires { v < self.old }
         ensures { self.new ≡ self.old }
     {
         let span = self.spans[v];
-        let border = self.border(v, span).saturating_sub(1);
         let before = span.first.saturating_sub(1);
         let last = span.end.saturating_sub(1);
+        let borders = self.borders_of(v, span);
+        let free = borders.free.saturating_sub(1);
+        let leaving = borders.leaving.saturating_sub(1);
         self.set_span(v, before, last);
-        self.set_border(v, border);
-        self.move_link(border, before);
-        self.move_link(last, border);
+        self.set_borders(v, Borders { free, leaving });
+        self.move_link(free, before);
+        self.move_link(leaving, free);
+        self.move_link(last, leaving);
     }
 
     /// Gives an end of an arc another place.

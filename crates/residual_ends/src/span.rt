@@ -15,3 +15,20 @@ impl Span {
     /// Of no link.
     pub const NONE: Span = Span { first: 0, end: 0 };
 }
+
+/// Where the parts of a node's ends stop, once they are in order.
+#[derive(Clone, Copy)]
+pub(crate) struct Borders {
+    /// The place behind the ends with room both ways.
+    pub free: u32,
+    /// The place behind those with room to leave the node alone.
+    pub leaving: u32,
+}
+
+impl Borders {
+    /// Of no link.
+    pub const NONE: Borders = Borders {
+        free: 0,
+        leaving: 0,
+    };
+}

@@ -6,7 +6,7 @@ ghost use Rattle.residual_ends.specs.Links.{LeadTo};
 
 use crate::arc::Arc;
 use crate::link::Link;
-use crate::span::Span;
+use crate::span::{Borders, Span};
 use containers::both;
 use std::alloc::{AllocError, Global};
 use std::marker::Model;
@@ -17,9 +17,8 @@ pub struct ResidualEnds {
     /// Where the links of each node stand, one node behind the other.
     pub(crate) spans: Vec<Span>,
     pub(crate) links: Vec<Link>,
-    /// The place of the first end of each node that has not room both ways, once the ends are in order: its room is touched
-    /// only then.
-    pub(crate) borders: Vec<u32>,
+    /// Where the parts of each node's ends stop, once the ends are in order: its room is touched only then.
+    pub(crate) borders: Vec<Borders>,
     /// The number of the end at each place: 2k is the tail of arc k, and 2k + 1 its head.
     pub(crate) numbers: Vec<u32>,
     /// The place of the tail of each arc.

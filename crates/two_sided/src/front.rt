@@ -430,7 +430,7 @@ impl Front {
         let mut meeting = meeting;
         let key = self.key(u);
         let potential = proposal.potential(u);
-        let links = proposal.ends().others_at(u).links;
+        let links = proposal.ends().others_at::<AHEAD>(u).links;
         self.reads = self.reads.saturating_add(links.len() as u64);
         let mut least = FAR;
         for link in links {
@@ -459,7 +459,7 @@ impl Front {
         if label.key >= meeting.length || label.key >= self.key(v) {
             return meeting;
         }
-        // The other side comes to a node that it has not settled over no shorter path than so far.
+        // However the other side comes to this node, its path is at least so long.
         let beyond = other.last.min(other.key(v));
         if label.key + beyond >= meeting.length {
             return meeting;
