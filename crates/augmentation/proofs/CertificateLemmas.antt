@@ -5,7 +5,7 @@ use Rattle.dimacs_text.specs.declared.problem.ArcRow.{ArcRow}
 use Rattle.residual_graph.specs.declared.residual.Way.{Way}
 use Rattle.residual_graph.specs.declared.residual.Way.TheVariants.{Forward, Backward}
 use Rattle.residual_graph.specs.Limits.{potential_floor}
-use Rattle.shortest_paths.specs.Limits.{label_floor}
+use Rattle.predecessors.specs.Limits.{label_floor}
 use Rattle.residual_graph.specs.Residual.{ArePotentials, NoneBelow, number_at, row_at}
 use Rattle.augmentation.specs.Certificate.{IsNoneBelowAt, KeepsRow}
 

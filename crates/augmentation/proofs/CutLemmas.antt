@@ -17,8 +17,8 @@ use Rattle.residual_graph.specs.declared.side.Side.{Side}
 use Rattle.residual_graph.specs.declared.side.Side.TheVariants.{Ahead, Behind}
 use Rattle.flow_changes.specs.Push.{part_above_0, left}
 use Rattle.flow_changes.proofs.PushesLemmas.{left-neg, number_at-neg}
-use Rattle.shortest_paths.specs.declared.predecessor.Predecessor.{Predecessor}
-use Rattle.shortest_paths.specs.Predecessor.{predecessor_at}
+use Rattle.predecessors.specs.declared.predecessor.Predecessor.{Predecessor}
+use Rattle.predecessors.specs.Predecessor.{predecessor_at}
 use Rattle.shortest_paths.specs.Search.{IsExhausted, IsReached}
 use Rattle.shortest_paths.proofs.SearchLemmas.{open_or_reached}
 use Rattle.augmentation.specs.Cut.{amount, near_at, near_of, far_of, AreFarIn, IsClosedAlong, LeadsOut, way_from, IsParted, IsGrown, AreMarkedListed, AreNodesIn, AreTaken, lack}

@@ -12,16 +12,16 @@ use Rattle.network.specs.Flow.{reduced_cost}
 use Rattle.residual_graph.specs.Residual.{IsPseudoflow, end_at, end_of, number_at, room_of, row_at, start_at, start_of}
 use Rattle.residual_graph.proofs.RowLemmas.{start_of-in}
 use Rattle.residual_graph.specs.Walk.{end_way}
-use Rattle.shortest_paths.specs.declared.predecessor.Predecessor.{Predecessor}
+use Rattle.predecessors.specs.declared.predecessor.Predecessor.{Predecessor}
 use Rattle.shortest_paths.specs.Tree.{AreArcsNoted, IsArcNoted, TreeView}
 use Rattle.tracked.specs.Touched.{NameChanges}
-use Rattle.shortest_paths.specs.Predecessor.{ComesAlong, IsTracedAt, arc_to, predecessor_at, rank_at, row_along, way_to}
+use Rattle.predecessors.specs.Predecessor.{ComesAlong, IsTracedAt, arc_to, predecessor_at, rank_at, row_along, way_to}
 use Rattle.augmentation.specs.Certificate.{AreInRange, KeepsRow}
 use Rattle.tracked.specs.Marks.{in_set}
 use Rattle.augmentation.specs.Held.{AreTested, AreMarkedChanges, AreNotedChanges, AreTestedThere, HoldsAlong, HoldsAt, AreHeld, IsHeldIn, IsInLabelRange}
 use Rattle.augmentation.specs.Settle.{AreShortest}
 use Rattle.augmentation.proofs.CertificateLemmas.{none_of, rows_of, within_potentials}
-use Rattle.shortest_paths.proofs.LabelLemmas.{greatest_of}
+use Rattle.predecessors.proofs.LabelLemmas.{greatest_of}
 use Rattle.tracked.specs.NodeLists.{node_at}
 use Rattle.tracked.proofs.JournalLemmas.{named_at}
 use Rattle.tracked.proofs.TouchedLemmas.{noted_or_not}

@@ -9,8 +9,8 @@ use Rattle.residual_graph.specs.declared.residual.ResidualArc.{ResidualArc}
 use Rattle.residual_graph.specs.declared.residual.Way.{Way}
 use Rattle.residual_graph.specs.declared.residual.Way.TheVariants.{Forward, Backward}
 use Rattle.residual_graph.specs.Residual.{end_at, number_at, start_at}
-use Rattle.shortest_paths.specs.declared.predecessor.Predecessor.{Predecessor}
-use Rattle.shortest_paths.specs.Predecessor.{rank_at}
+use Rattle.predecessors.specs.declared.predecessor.Predecessor.{Predecessor}
+use Rattle.predecessors.specs.Predecessor.{rank_at}
 use Rattle.shortest_paths.specs.Search.{AreHung, IsReached}
 use Rattle.flow_changes.specs.Push.{HasRoom, IsPath, IsTight, IsTightArc, moved, nodes_on, push_along}
 use Rattle.augmentation.specs.Path.{before, hop_to, hops_before, path_to, root_of, root_to}

@@ -7,10 +7,10 @@ use Rattle.std.proofs.lemmas.Int.{ints}
 use Rattle.std.proofs.lemmas.List.{get_or_default}
 use Rattle.std.proofs.lemmas.List.Sums.{sum_by-le}
 use Rattle.dimacs_text.specs.declared.problem.ArcRow.{ArcRow}
-use Rattle.shortest_paths.specs.declared.predecessor.Predecessor.{Predecessor}
+use Rattle.predecessors.specs.declared.predecessor.Predecessor.{Predecessor}
 use Rattle.residual_graph.specs.Graph.{GraphView}
 use Rattle.residual_graph.specs.Residual.{IsReducedCostOptimal, NoneBelow, number_at}
-use Rattle.shortest_paths.specs.Predecessor.{rank_at}
+use Rattle.predecessors.specs.Predecessor.{rank_at}
 use Rattle.shortest_paths.specs.Search.{HasFound, IsForest, IsReached}
 use Rattle.shortest_paths.proofs.StepLemmas.{forest_of}
 use Rattle.flow_changes.specs.Push.{IsTight, IsTightArc, ArePushes, AreSmall, one_if, part_above_0, left, lack}

@@ -3,9 +3,9 @@ use Rattle.std.specs.Prelude.{◌≡◌, ℕ, ◌<◌, ◌⊎◌, ℤ, pos, neg_
 use Rattle.dimacs_text.specs.declared.problem.ArcRow.{ArcRow}
 use Rattle.residual_graph.specs.declared.residual.Way.{Way}
 use Rattle.residual_graph.specs.Residual.{IsPseudoflow, end_at, number_at, row_at, start_at}
-use Rattle.shortest_paths.specs.declared.predecessor.Predecessor.{Predecessor}
-use Rattle.shortest_paths.specs.Limits.{label_floor}
-use Rattle.shortest_paths.specs.Predecessor.{IsTracedAt, arc_to, predecessor_at}
+use Rattle.predecessors.specs.declared.predecessor.Predecessor.{Predecessor}
+use Rattle.predecessors.specs.Limits.{label_floor}
+use Rattle.predecessors.specs.Predecessor.{IsTracedAt, arc_to, predecessor_at}
 use Rattle.shortest_paths.specs.Tree.{IsRelabelled, TreeView}
 use Rattle.augmentation.specs.declared.held.Labelled.{Labelled}
 use Rattle.augmentation.specs.Certificate.{AreCertifying, AreInRange, KeepsRow}

@@ -1,5 +1,5 @@
 -- Tables of nodes: node v has entry v, and entry 0 stands for no node.
-use Rattle.shortest_paths.specs.Limits.{label_floor}
+use Rattle.predecessors.specs.Limits.{label_floor}
 use Rattle.std.specs.Prelude.{ℕ, zero, suc, ℤ, pos, neg_ℤ, ◌≤ℤ◌, List, [], ◌∷◌}
 use Rattle.residual_graph.specs.Residual.{number_at}
 

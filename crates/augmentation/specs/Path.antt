@@ -3,8 +3,8 @@ use Rattle.std.specs.Prelude.{◌≡◌, ℕ, zero, suc, ℤ, pos, neg_ℤ, ◌<
 use Rattle.dimacs_text.specs.declared.problem.ArcRow.{ArcRow}
 use Rattle.residual_graph.specs.declared.residual.ResidualArc.{ResidualArc}
 use Rattle.residual_graph.specs.Residual.{IsPseudoflow, number_at, start_at}
-use Rattle.shortest_paths.specs.declared.predecessor.Predecessor.{Predecessor}
-use Rattle.shortest_paths.specs.Predecessor.{arc_to, rank_at, way_to}
+use Rattle.predecessors.specs.declared.predecessor.Predecessor.{Predecessor}
+use Rattle.predecessors.specs.Predecessor.{arc_to, rank_at, way_to}
 use Rattle.shortest_paths.specs.Search.{AreHung, HavePaths, IsReached}
 use Rattle.tracked.specs.Tracked.{IsWritten, TrackedView}
 use Rattle.flow_changes.specs.Push.{HasRoom, IsTransfer, push_along}

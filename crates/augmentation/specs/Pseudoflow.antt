@@ -2,7 +2,7 @@
 use Rattle.std.specs.Prelude.{◌≡◌, ℤ, List, length}
 use Rattle.residual_graph.specs.Graph.{GraphView, HasEntries}
 use Rattle.residual_graph.specs.Residual.{ArePotentials, IsReducedCostOptimal}
-use Rattle.shortest_paths.specs.Limits.{label_floor}
+use Rattle.predecessors.specs.Limits.{label_floor}
 use Rattle.shortest_paths.specs.Tree.{IsForgotten}
 use Rattle.flow_changes.specs.Push.{AreSmall}
 use Rattle.augmentation.specs.ScratchView.{ScratchView}

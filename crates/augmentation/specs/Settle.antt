@@ -1,7 +1,7 @@
 -- The greatest potentials that certify a flow: the shortest labels.
 use Rattle.std.specs.Prelude.{ℤ, List, length}
 use Rattle.dimacs_text.specs.declared.problem.ArcRow.{ArcRow}
-use Rattle.shortest_paths.specs.Limits.{label_floor}
+use Rattle.predecessors.specs.Limits.{label_floor}
 use Rattle.residual_graph.specs.Residual.{AreGreatest, ArePotentials, IsReducedCostOptimal}
 
 -- these potentials certify the flow, and are the greatest that do

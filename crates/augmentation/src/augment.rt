@@ -8,8 +8,8 @@ ghost use Rattle.augmentation.specs.Path.{AugmentsOn, CanGiveOn, HasRoomOn, Have
 ghost use Rattle.flow_changes.specs.Push.{AreSmall, IsTransfer, moved};
 ghost use Rattle.tracked.specs.Tracked.{IsWritten};
 
+use predecessors::Predecessor;
 use residual_graph::{Graph, Way};
-use shortest_paths::Predecessor;
 use tracked::Tracked;
 
 /// The path by which a search came to a node.

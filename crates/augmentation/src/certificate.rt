@@ -5,8 +5,8 @@ ghost use Rattle.residual_graph.specs.Residual.{IsPseudoflow, IsRow, IsWithinRow
 ghost use Rattle.augmentation.specs.Certificate.{AreCertifying, AreInRange, KeepsArc, KeepsRow};
 
 use dimacs_text::ArcRow;
+use predecessors::reduced_along;
 use residual_graph::{Graph, Way};
-use shortest_paths::reduced_along;
 
 /// The least potential with which a run of pushes begins.
 pub(crate) const FLOOR: i64 = -50_000_000_000_000_000;

@@ -8,9 +8,10 @@ ghost use Rattle.residual_graph.specs.declared.residual.Way.{Way};
 ghost use Rattle.augmentation.specs.Held.{AllMarked, AreTestedIn, AreTracedAllOn, HangsWellOn, HoldAlongAllOn, HoldAtAllOn, HoldsAlongOn, HoldsAtOn, IsHeldSince, IsInRangeAt, IsLabelling};
 
 use crate::certificate::{FLOOR, certifies, keeps_arc};
+use predecessors::{Predecessor, are_traced, is_traced};
 use residual_ends::ResidualEnds;
 use residual_graph::{Graph, Way};
-use shortest_paths::{Predecessor, Tree, are_traced, is_traced};
+use shortest_paths::Tree;
 use tracked::{Touched, Tracked};
 
 /// Labels with predecessors, and the flow that they are to certify.

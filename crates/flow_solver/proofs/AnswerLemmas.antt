@@ -16,7 +16,7 @@ use Rattle.network.proofs.Reduction.{made, rows_of, reduced_ends, certified_is_b
 use Rattle.flow_solver.specs.declared.verdict.Verdict.{Verdict}
 use Rattle.flow_solver.specs.declared.verdict.Verdict.TheVariants.{Best, Infeasible}
 use Rattle.flow_changes.specs.Limits.{supply_limit}
-use Rattle.shortest_paths.specs.Limits.{label_floor}
+use Rattle.predecessors.specs.Limits.{label_floor}
 use Rattle.residual_graph.specs.Residual.{IsReducedCostOptimal, ArePotentials, number_at, row_at}
 use Rattle.flow_changes.specs.Push.{AreSmall, IsExcess, part_above_0, left, cap_total}
 use Rattle.augmentation.specs.Cut.{lack, IsParted, IsSideOfCut}

@@ -14,7 +14,7 @@ use Rattle.residual_graph.specs.Residual.{AreGreatest, ArePotentials, IsReducedC
 use Rattle.residual_graph.proofs.NodeNumbers.{IsNodeOf}
 use Rattle.residual_graph.proofs.Pseudoflows.{bounds_of, flow_of_instance}
 use Rattle.residual_graph.proofs.Slackness.{none_below_of, signs_of}
-use Rattle.shortest_paths.specs.Limits.{label_floor}
+use Rattle.predecessors.specs.Limits.{label_floor}
 use Rattle.augmentation.specs.Nodes.{IsIdleEntry}
 use Rattle.augmentation.proofs.CertificateLemmas.{within_potentials}
 

@@ -5,9 +5,9 @@ use Rattle.std.proofs.lemmas.List.{get_or-set_same, get_or-set_other, length-set
 use Rattle.dimacs_text.specs.declared.problem.ArcRow.{ArcRow}
 use Rattle.residual_graph.specs.Residual.{start_at}
 use Rattle.residual_graph.specs.Walk.{end_way}
-use Rattle.shortest_paths.specs.declared.predecessor.Predecessor.{Predecessor}
+use Rattle.predecessors.specs.declared.predecessor.Predecessor.{Predecessor}
 use Rattle.shortest_paths.specs.Levels.{IsHangingOn, IsLeadingTo}
-use Rattle.shortest_paths.specs.Predecessor.{arc_to, predecessor_at, rank_at, reduced_at, root_node, way_to}
+use Rattle.predecessors.specs.Predecessor.{arc_to, predecessor_at, rank_at, reduced_at, root_node, way_to}
 use Rattle.shortest_paths.specs.Search.{IsForest, IsHung, IsOpen, IsReached, IsSearch, come_from, open_count}
 use Rattle.shortest_paths.proofs.SearchLemmas.{is_there, one_less, open_in, same_as_before, search_on, still_reached}
 

@@ -1,5 +1,4 @@
 pub mod SearchLemmas
 pub mod StepLemmas
 pub mod TreeLemmas
-pub mod LabelLemmas
 pub mod LevelLemmas

@@ -7,8 +7,8 @@ use Rattle.std.proofs.lemmas.List.Sums.{count_by-le-length, sum_by-set}
 use Rattle.dimacs_text.specs.declared.problem.ArcRow.{ArcRow}
 use Rattle.residual_graph.specs.Residual.{start_at}
 use Rattle.residual_graph.specs.Walk.{end_way}
-use Rattle.shortest_paths.specs.declared.predecessor.Predecessor.{Predecessor}
-use Rattle.shortest_paths.specs.Predecessor.{arc_to, open_node, predecessor_at, reduced_at, root_node, way_to}
+use Rattle.predecessors.specs.declared.predecessor.Predecessor.{Predecessor}
+use Rattle.predecessors.specs.Predecessor.{arc_to, open_node, predecessor_at, reduced_at, root_node, way_to}
 use Rattle.shortest_paths.specs.Search.{IsCameBy, IsOpen, IsReached, IsSearch, open_count}
 
 pub open_or_reached : (t : List Predecessor) (v : ℕ) → v < length t → IsOpen t v ⊎ IsReached t v

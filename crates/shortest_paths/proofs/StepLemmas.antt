@@ -14,11 +14,11 @@ use Rattle.residual_graph.specs.Limits.{cost_limit, entry_limit, potential_floor
 use Rattle.residual_graph.specs.Residual.{AreGreatest, ArePotentials, IsPseudoflow, IsReducedCostOptimal, IsResidual, NoneBelow, NoneBelowBy, cost_at, end_at, number_at, row_at, start_at}
 use Rattle.residual_graph.specs.Walk.{end_way}
 use Rattle.residual_graph.proofs.RowLemmas.{cost_of-bounds, end_of-in, start_of-in}
-use Rattle.shortest_paths.specs.Limits.{label_floor}
-use Rattle.shortest_paths.specs.declared.predecessor.Predecessor.{Predecessor}
-use Rattle.shortest_paths.specs.Predecessor.{AreBounded, IsTracedAt, arc_to, predecessor_at, rank_at, reduced_at, root_node, way_to}
+use Rattle.predecessors.specs.Limits.{label_floor}
+use Rattle.predecessors.specs.declared.predecessor.Predecessor.{Predecessor}
+use Rattle.predecessors.specs.Predecessor.{AreBounded, IsTracedAt, arc_to, predecessor_at, rank_at, reduced_at, root_node, way_to}
 use Rattle.shortest_paths.specs.Search.{AreLowered, AreOffered, AreRaised, AreServed, AreServedFrom, Crosses, HaveJoined, IsAlong, IsDeficitFound, IsForest, IsOpen, IsReached, IsSearch, IsServed, NoneCrosses, come_from, open_count}
-use Rattle.shortest_paths.proofs.LabelLemmas.{greatest_of}
+use Rattle.predecessors.proofs.LabelLemmas.{greatest_of}
 use Rattle.shortest_paths.proofs.SearchLemmas.{all_reached, is_there, not_both, one_less, one_reached, open_before, open_in, open_or_reached, same_as_before, search_on, still_reached}
 
 -- ---- nodes wait

@@ -9,8 +9,8 @@ use Rattle.residual_graph.specs.declared.residual.Way.{Way}
 use Rattle.residual_graph.specs.Limits.{cost_limit, entry_limit, potential_floor}
 use Rattle.residual_graph.specs.Residual.{IsResidual, end_at, number_at, start_at}
 use Rattle.residual_graph.specs.Walk.{end_way}
-use Rattle.shortest_paths.specs.declared.predecessor.Predecessor.{Predecessor}
-use Rattle.shortest_paths.specs.Predecessor.{arc_to, predecessor_at, rank_at, reduced_at, root_node, way_to}
+use Rattle.predecessors.specs.declared.predecessor.Predecessor.{Predecessor}
+use Rattle.predecessors.specs.Predecessor.{arc_to, predecessor_at, rank_at, reduced_at, root_node, way_to}
 
 -- the search came to node v, or v is open
 abbrev pub IsReached : List Predecessor → ℕ → Type 0

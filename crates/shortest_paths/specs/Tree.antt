@@ -6,7 +6,7 @@ use Rattle.shortest_paths.specs.declared.residual_network.Residual.{Residual}
 use Rattle.shortest_paths.specs.Search.{IsForest}
 use Rattle.tracked.specs.Marks.{in_set}
 use Rattle.tracked.specs.Touched.{AgreeAt}
-use Rattle.shortest_paths.specs.declared.predecessor.Predecessor.{Predecessor}
+use Rattle.predecessors.specs.declared.predecessor.Predecessor.{Predecessor}
 
 -- what contracts see of a tree: the label and the predecessor of each node; the nodes where one of these was written since they were tested; the arcs that are noted since, with the nodes beside them; whether more changed than is noted; and whether any potential may be another than the label
 pub record TreeView : Type 0 where

@@ -4,15 +4,15 @@ ghost use Rattle.std.specs.Prelude.{◌≡◌, ◌<◌, ◌+ℤ◌, FitsSigned, 
 ghost use Rattle.std.specs.Int.{w64};
 ghost use Rattle.residual_graph.specs.Limits.{potential_floor};
 ghost use Rattle.residual_graph.specs.Residual.{AreGreatest, ArePotentials, IsPseudoflow, IsReducedCostOptimal, number_at};
-ghost use Rattle.shortest_paths.specs.Limits.{label_floor};
+ghost use Rattle.predecessors.specs.Limits.{label_floor};
 ghost use Rattle.shortest_paths.specs.Search.{AreOffered, IsSettledBy, MayCome, raised};
 ghost use Rattle.shortest_paths.specs.Tree.{IsForgotten};
 
-use crate::predecessor::Predecessor;
 use crate::progress::Progress;
 use crate::search::{come_along, offer_from, raise};
 use crate::tree::Tree;
 use containers::{Queue, Waiting};
+use predecessors::Predecessor;
 use residual_graph::Graph;
 
 /// Has each node wait for as much as its potential lies below 0.

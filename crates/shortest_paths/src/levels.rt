@@ -7,17 +7,17 @@
 ghost use Rattle.std.specs.Prelude.{◌≡◌, ◌+◌, ◌/◌, ◌<◌, false, IsTrue, List, ℤ, length};
 ghost use Rattle.residual_graph.specs.Limits.{potential_floor};
 ghost use Rattle.residual_graph.specs.Residual.{IsPseudoflow, IsReducedCostOptimal};
-ghost use Rattle.shortest_paths.specs.Predecessor.{AreBounded};
+ghost use Rattle.predecessors.specs.Predecessor.{AreBounded};
 ghost use Rattle.shortest_paths.specs.Levels.{IsHangingOn};
 ghost use Rattle.shortest_paths.specs.Progress.{IsLeadingToOn};
 ghost use Rattle.shortest_paths.specs.Search.{IsSearch};
 ghost use Rattle.shortest_paths.specs.Tree.{IsForestOf};
 
-use crate::predecessor::{Predecessor, leaving, reduced_along};
 use crate::progress::Progress;
 use crate::search::{begin_in_excess, come_along, crosses};
 use crate::tree::Tree;
 use containers::{Queue, Waiting};
+use predecessors::{Predecessor, leaving, reduced_along};
 use residual_graph::Graph;
 
 /// Has the node wait to which the residual arc leads that leaves at an end, where that is there, crosses and costs nothing.

@@ -8,13 +8,11 @@
 mod forest;
 mod labels;
 mod levels;
-mod predecessor;
 mod progress;
 mod residual_network;
 mod search;
 mod step;
 mod tree;
 
-pub use predecessor::{Predecessor, are_traced, is_traced, reduced_along};
 pub use residual_network::Residual;
 pub use tree::Tree;

@@ -3,9 +3,9 @@
 ghost use Rattle.std.specs.Prelude.{◌≡◌, length};
 ghost use Rattle.residual_graph.specs.Limits.{potential_floor};
 ghost use Rattle.residual_graph.specs.Residual.{IsPseudoflow};
-ghost use Rattle.shortest_paths.specs.Predecessor.{AreBounded};
+ghost use Rattle.predecessors.specs.Predecessor.{AreBounded};
 
-use crate::predecessor::Predecessor;
+use predecessors::Predecessor;
 use residual_graph::Graph;
 
 /// What a search looks at: the residual graph of a flow, the potentials that lead it, and how it came to nodes so far.

@@ -11,16 +11,16 @@ ghost use Rattle.residual_graph.specs.Limits.{entry_limit, potential_floor};
 ghost use Rattle.residual_graph.specs.Residual.{ArePotentials, IsPseudoflow, IsReducedCostOptimal, number_at};
 ghost use Rattle.residual_graph.specs.Walk.{end_way};
 ghost use Rattle.residual_graph.specs.declared.residual.Way.{Way};
-ghost use Rattle.shortest_paths.specs.Limits.{label_floor};
-ghost use Rattle.shortest_paths.specs.Predecessor.{AreBounded, rank_at};
+ghost use Rattle.predecessors.specs.Limits.{label_floor};
+ghost use Rattle.predecessors.specs.Predecessor.{AreBounded, rank_at};
 ghost use Rattle.shortest_paths.specs.Progress.{AreServedFromOn, AreServedOn, CrossesOn, HaveJoinedOn, IsServedOn};
 ghost use Rattle.shortest_paths.specs.Search.{AreLowered, IsDeficitAt, IsDeficitFound, IsFromExcess, IsWithinFloor, come_to, lowered_by, raised, rank_before};
 ghost use Rattle.shortest_paths.specs.Tree.{IsForgotten};
 
-use crate::predecessor::{Predecessor, leaving, reduced_along};
 use crate::progress::Progress;
 use crate::tree::Tree;
 use containers::{Queue, Waiting};
+use predecessors::{Predecessor, leaving, reduced_along};
 use residual_graph::Graph;
 
 /// Whether the residual arc that leaves at an end is there, and leads from a node that the search reached to an open one.

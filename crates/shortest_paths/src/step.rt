@@ -2,8 +2,8 @@
 
 ghost use Rattle.std.specs.Prelude.{◌<◌, IfSome, length};
 
-use crate::predecessor::leaving;
 use crate::residual_network::Residual;
+use predecessors::leaving;
 
 /// A residual arc.
 #[derive(Clone, Copy)]

@@ -13,10 +13,10 @@ mod near;
 mod whole;
 
 use crate::forest::Forest;
-use crate::predecessor::Predecessor;
 use crate::residual_network::Residual;
 use crate::step::{Step, across};
 use containers::{Frontier, State, both};
+use predecessors::Predecessor;
 use residual_graph::Graph;
 use std::alloc::{AllocError, Global};
 use std::marker::Model;

@@ -4,9 +4,9 @@ ghost use Rattle.std.specs.Prelude.{◌≡◌, ◌<◌, length};
 ghost use Rattle.shortest_paths.specs.Tree.{IsRelabelled, IsTreeOf};
 
 use super::{FAR, Tree, lowered};
-use crate::predecessor::Predecessor;
 use crate::residual_network::Residual;
 use crate::step::{Step, across, tail_of};
+use predecessors::Predecessor;
 
 /// While fewer nodes are loose, one that lost its predecessor is hung on another node at the same label, if there is
 /// one.

@@ -5,10 +5,10 @@ ghost use Rattle.std.specs.Prelude.{◌≡◌, ◌<◌, length};
 ghost use Rattle.shortest_paths.specs.Tree.{IsRelabelled, IsTreeOf};
 
 use super::{FAR, MOST_SCANNED, Tree, entry, lowered, raised};
-use crate::predecessor::Predecessor;
 use crate::residual_network::Residual;
 use crate::step::{Step, across, tail_of};
 use containers::State;
+use predecessors::Predecessor;
 
 /// Where more than one node in so many was not reached, residual arcs from nodes that were are looked for.
 const MOST_LEFT: usize = 4;

@@ -5,7 +5,7 @@ use Rattle.residual_graph.specs.declared.residual.ResidualArc.{ResidualArc}
 use Rattle.residual_graph.specs.declared.residual.Way.{Way}
 use Rattle.residual_graph.specs.declared.residual.Way.TheVariants.{Backward, Forward}
 use Rattle.residual_graph.specs.Residual.{IsWithinRow, number_at, room_of, row_at, start_of}
-use Rattle.shortest_paths.specs.Predecessor.{rank_at}
+use Rattle.predecessors.specs.Predecessor.{rank_at}
 use Rattle.shortest_paths.specs.Search.{IsReached}
 use Rattle.augmentation.specs.Path.{before, hop_to, hops_before, root_to}
 use Rattle.augmentation.proofs.PathLemmas.{root_back, step_back}

@@ -4,7 +4,7 @@ use Rattle.std.proofs.lemmas.List.{get_or_default}
 use Rattle.std.specs.Prelude.{slice_index_or}
 use Rattle.residual_graph.specs.declared.residual.ResidualArc.{ResidualArc}
 use Rattle.residual_graph.specs.Residual.{IsWithinRow, number_at, row_at, start_at}
-use Rattle.shortest_paths.specs.Predecessor.{rank_at}
+use Rattle.predecessors.specs.Predecessor.{rank_at}
 use Rattle.flow_changes.specs.Push.{HasRoom, moved}
 use Rattle.augmentation.specs.Path.{before, hop_to, hops_before}
 use Rattle.augmentation.proofs.PathLemmas.{IsOnward, onward_more, push_before, room_after, step_back}

@@ -1,6 +1,6 @@
 use Rattle.std.proofs.Common.{◌≡◌, List}
 use Rattle.residual_graph.specs.declared.residual.ResidualArc.{ResidualArc}
-use Rattle.shortest_paths.specs.Predecessor.{rank_at}
+use Rattle.predecessors.specs.Predecessor.{rank_at}
 use Rattle.augmentation.specs.Path.{hops_before, path_to}
 use Rattle.flow_changes.specs.Push.{push_along}
 use Rattle.tracked.specs.Tracked.{IsWritten}

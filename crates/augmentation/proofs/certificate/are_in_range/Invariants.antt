@@ -1,5 +1,5 @@
 use Rattle.std.proofs.Common.{ℕ, ◌<◌, pos, neg_ℤ, ◌≤ℤ◌}
-use Rattle.shortest_paths.specs.Limits.{label_floor}
+use Rattle.predecessors.specs.Limits.{label_floor}
 use Rattle.residual_graph.specs.Residual.{number_at}
 use Rattle.augmentation.proofs.certificate.are_in_range.Given as goal
 

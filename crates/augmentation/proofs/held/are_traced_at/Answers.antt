@@ -1,5 +1,5 @@
 use Rattle.std.proofs.Common.{ℕ, ◌<◌, arith, length, refl}
-use Rattle.shortest_paths.specs.Predecessor.{IsTracedAt}
+use Rattle.predecessors.specs.Predecessor.{IsTracedAt}
 use Rattle.augmentation.proofs.HeldLemmas.{at_named, at_one_more}
 use Rattle.augmentation.proofs.held.are_traced_at.Goals as goal
 

@@ -1,6 +1,6 @@
 use Rattle.std.proofs.Common.{ℕ, ◌<◌, length}
 use Rattle.tracked.specs.NodeLists.{node_at}
-use Rattle.shortest_paths.specs.Predecessor.{IsTracedAt}
+use Rattle.predecessors.specs.Predecessor.{IsTracedAt}
 use Rattle.augmentation.proofs.held.are_traced_at.Given as goal
 
 abbrev pub invariant-loop-node : goal.invariant-loop-node

@@ -1,6 +1,6 @@
 use Rattle.std.proofs.Common.{◌≡◌, ◌∙◌, ◌<◌, ℕ, ℤ, List, Bool, false, length, pos, refl, rules, sym, ap, subst, true}
 use Rattle.residual_graph.specs.Residual.{number_at}
-use Rattle.shortest_paths.specs.declared.predecessor.Predecessor.{Predecessor}
+use Rattle.predecessors.specs.declared.predecessor.Predecessor.{Predecessor}
 use Rattle.tracked.specs.Marks.{in_set}
 use Rattle.augmentation.specs.Certificate.{AreInRange}
 use Rattle.augmentation.specs.Held.{AreTestedThere, AreHeld, IsInLabelRange}

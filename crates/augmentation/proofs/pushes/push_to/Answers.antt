@@ -3,7 +3,7 @@ use Rattle.std.specs.Prelude.{◌<ℤ◌}
 use Rattle.std.specs.Vec.{with_items}
 use Rattle.std.proofs.lemmas.List.{with_items_is}
 use Rattle.residual_graph.specs.Residual.{number_at}
-use Rattle.shortest_paths.specs.declared.predecessor.Predecessor.{Predecessor}
+use Rattle.predecessors.specs.declared.predecessor.Predecessor.{Predecessor}
 use Rattle.shortest_paths.specs.Search.{HavePaths}
 use Rattle.augmentation.specs.Pseudoflow.{IsCertifiedPseudoflow}
 use Rattle.flow_changes.specs.Push.{ArePushes, one_if}

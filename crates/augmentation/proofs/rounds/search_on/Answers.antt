@@ -3,7 +3,7 @@ use Rattle.std.specs.Prelude.{Option}
 use Rattle.std.proofs.lemmas.Bool.{false≢true}
 use Rattle.dimacs_text.specs.declared.problem.ArcRow.{ArcRow}
 use Rattle.residual_graph.specs.Residual.{IsPseudoflow}
-use Rattle.shortest_paths.specs.declared.predecessor.Predecessor.{Predecessor}
+use Rattle.predecessors.specs.declared.predecessor.Predecessor.{Predecessor}
 use Rattle.shortest_paths.specs.Search.{HasFound, IsDeficitFound}
 use Rattle.augmentation.specs.Cut.{IsParted}
 use Rattle.augmentation.proofs.CutLemmas.{parted_exhausted, parted_unless_both}

@@ -1,7 +1,7 @@
 use Rattle.std.proofs.Common.{◌≡◌, ℕ, ◌<◌, pos}
 use Rattle.std.specs.Prelude.{◌<ℤ◌}
 use Rattle.residual_graph.specs.Residual.{number_at}
-use Rattle.shortest_paths.specs.Predecessor.{rank_at}
+use Rattle.predecessors.specs.Predecessor.{rank_at}
 use Rattle.shortest_paths.specs.Search.{IsReached}
 use Rattle.shortest_paths.proofs.search.begin_in_excess.Given as goal
 

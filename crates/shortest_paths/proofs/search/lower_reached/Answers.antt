@@ -2,7 +2,7 @@ use Rattle.std.proofs.Common.{◌≡◌, ◌∙◌, ◌<◌, pos, length, arith,
 use Rattle.std.proofs.lemmas.Bool.{cases_eq}
 use Rattle.std.proofs.lemmas.List.{get_or-set_other, get_or-set_same}
 use Rattle.residual_graph.specs.Residual.{number_at}
-use Rattle.shortest_paths.specs.Predecessor.{predecessor_at}
+use Rattle.predecessors.specs.Predecessor.{predecessor_at}
 use Rattle.shortest_paths.specs.Search.{lowered_by}
 use Rattle.shortest_paths.proofs.search.lower_reached.Goals as goal
 

@@ -1,6 +1,6 @@
 use Rattle.std.proofs.Common.{◌≡◌, ℕ, ◌<◌, ◌≤◌}
 use Rattle.residual_graph.specs.Residual.{number_at}
-use Rattle.shortest_paths.specs.Predecessor.{predecessor_at}
+use Rattle.predecessors.specs.Predecessor.{predecessor_at}
 use Rattle.shortest_paths.specs.Search.{lowered_by}
 use Rattle.shortest_paths.proofs.search.lower_reached.Given as goal
 

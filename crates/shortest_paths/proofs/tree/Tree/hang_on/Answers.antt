@@ -1,7 +1,7 @@
 use Rattle.std.proofs.Common.{◌≡◌, false, slice_set, subst, sym}
 use Rattle.std.proofs.lemmas.List.{get_or_read}
-use Rattle.shortest_paths.specs.declared.predecessor.Predecessor.{Predecessor}
-use Rattle.shortest_paths.specs.Predecessor.{predecessor_at}
+use Rattle.predecessors.specs.declared.predecessor.Predecessor.{Predecessor}
+use Rattle.predecessors.specs.Predecessor.{predecessor_at}
 use Rattle.shortest_paths.specs.Search.{IsForest}
 use Rattle.shortest_paths.proofs.LevelLemmas.{forest_hung}
 use Rattle.shortest_paths.proofs.tree.Tree.hang_on.Goals as goal

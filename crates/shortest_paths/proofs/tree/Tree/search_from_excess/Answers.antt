@@ -7,9 +7,9 @@ use Rattle.containers.specs.Queue.{entry_at, key_at}
 use Rattle.residual_graph.specs.Limits.{entry_limit, potential_floor}
 use Rattle.residual_graph.specs.Residual.{ArePotentials, IsPseudoflow, IsReducedCostOptimal, NoneBelowBy, number_at, start_at}
 use Rattle.residual_graph.specs.Walk.{end_way}
-use Rattle.shortest_paths.specs.Limits.{label_floor}
-use Rattle.shortest_paths.specs.declared.predecessor.Predecessor.{Predecessor}
-use Rattle.shortest_paths.specs.Predecessor.{rank_at}
+use Rattle.predecessors.specs.Limits.{label_floor}
+use Rattle.predecessors.specs.declared.predecessor.Predecessor.{Predecessor}
+use Rattle.predecessors.specs.Predecessor.{rank_at}
 use Rattle.shortest_paths.specs.Search.{AreLowered, AreServedFrom, HaveJoined, IsDeficitFound, IsReached, IsSearch, come_from, open_count}
 use Rattle.shortest_paths.specs.Tree.{TreeView}
 use Rattle.shortest_paths.proofs.StepLemmas.{AreAlong, IsClimbing, IsUnderway, along_after, was_waiting, along_first, bounded_climbing, certified_lowered, climbing_after, climbing_first, fewer, IsFirstFound, found_after, found_before_end, found_or_exhausted, key_enough, later_along, node_in, none_below_after, of_tables, rank_fits, risen, roots_after, search_along, search_lowered, sources_after, underway_after, underway_first}

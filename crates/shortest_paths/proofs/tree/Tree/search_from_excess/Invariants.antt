@@ -1,6 +1,6 @@
 use Rattle.std.specs.Prelude.{pos, ℕ, ◌≡◌, ◌<ℤ◌}
 use Rattle.residual_graph.specs.Residual.{number_at}
-use Rattle.shortest_paths.specs.Predecessor.{rank_at}
+use Rattle.predecessors.specs.Predecessor.{rank_at}
 use Rattle.shortest_paths.specs.Search.{IsReached, open_count}
 use Rattle.shortest_paths.proofs.StepLemmas.{AreAlong, IsClimbing, IsFirstFound, IsUnderway}
 use Rattle.shortest_paths.proofs.tree.Tree.search_from_excess.Given as goal

@@ -6,9 +6,9 @@ use Rattle.containers.specs.declared.queue.Waiting.{Waiting}
 use Rattle.containers.specs.Queue.{entry_at, key_at}
 use Rattle.residual_graph.specs.Limits.{entry_limit, potential_floor}
 use Rattle.residual_graph.specs.Residual.{AreGreatest, ArePotentials, IsReducedCostOptimal, number_at}
-use Rattle.shortest_paths.specs.declared.predecessor.Predecessor.{Predecessor}
-use Rattle.shortest_paths.specs.Limits.{label_floor}
-use Rattle.shortest_paths.specs.Predecessor.{root_node}
+use Rattle.predecessors.specs.declared.predecessor.Predecessor.{Predecessor}
+use Rattle.predecessors.specs.Limits.{label_floor}
+use Rattle.predecessors.specs.Predecessor.{root_node}
 use Rattle.shortest_paths.specs.Search.{AreRaised, AreServedFrom, HaveJoined, IsOpen, IsSearch, come_from, open_count, rank_before}
 use Rattle.shortest_paths.specs.Tree.{TreeView}
 use Rattle.shortest_paths.proofs.StepLemmas.{HaveJoined-refl, IsRising, IsUnderway, below_or_not, bounded_rising, certified_raised, fewer, greatest_raised, later_rising, of_tables, potential_in, node_in, raised_along, raised_root, rank_fits, rising_after, rising_first, root_or_along, search_along, search_root, underway_after, underway_rising, was_waiting, within_raised}

@@ -1,6 +1,6 @@
 use Rattle.std.proofs.Common.{ℕ, ◌<◌}
-use Rattle.shortest_paths.specs.Predecessor.{IsTracedAt}
-use Rattle.shortest_paths.proofs.predecessor.are_traced.Given as goal
+use Rattle.predecessors.specs.Predecessor.{IsTracedAt}
+use Rattle.predecessors.proofs.predecessor.are_traced.Given as goal
 
 abbrev pub invariant-loop-v : goal.invariant-loop-v
 invariant-loop-v l = record {

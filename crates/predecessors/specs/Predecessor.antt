@@ -7,7 +7,7 @@ use Rattle.residual_graph.specs.declared.residual.ResidualArc.{ResidualArc}
 use Rattle.residual_graph.specs.declared.residual.Way.{Way}
 use Rattle.residual_graph.specs.Residual.{cost_of, end_of, number_at, room_of, row_at, start_of}
 use Rattle.residual_graph.specs.Walk.{end_way}
-use Rattle.shortest_paths.specs.declared.predecessor.Predecessor.{Predecessor}
+use Rattle.predecessors.specs.declared.predecessor.Predecessor.{Predecessor}
 
 -- a node to which no search came
 abbrev pub open_node : Predecessor

@@ -1,7 +1,7 @@
 use Rattle.std.proofs.Common.{arith}
 use Rattle.std.proofs.lemmas.Int.{ints}
 use Rattle.residual_graph.proofs.RowLemmas.{cost_of-bounds}
-use Rattle.shortest_paths.proofs.predecessor.reduced_along.Goals as goal
+use Rattle.predecessors.proofs.predecessor.reduced_along.Goals as goal
 
 pub reduced_cost-requires-clause-sum : goal.reduced_cost-requires-clause-sum
 reduced_cost-requires-clause-sum c =

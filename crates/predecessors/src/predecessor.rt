@@ -2,10 +2,10 @@
 
 ghost use Rattle.std.specs.Prelude.{◌≡◌, ◌<◌, IsTrue, length};
 ghost use Rattle.network.specs.Flow.{reduced_cost};
-ghost use Rattle.shortest_paths.specs.Limits.{label_floor};
+ghost use Rattle.predecessors.specs.Limits.{label_floor};
 ghost use Rattle.residual_graph.specs.Limits.{potential_floor};
 ghost use Rattle.residual_graph.specs.Residual.{AreGreatest, ArePotentials, IsPseudoflow, IsRow, IsWithinRow, number_at};
-ghost use Rattle.shortest_paths.specs.Predecessor.{AllTraced, AreBounded, ComesAlong, IsTracedAt, arc_from, open_node, root_node, row_along};
+ghost use Rattle.predecessors.specs.Predecessor.{AllTraced, AreBounded, ComesAlong, IsTracedAt, arc_from, open_node, root_node, row_along};
 
 use dimacs_text::ArcRow;
 use network::reduced_cost;
@@ -41,7 +41,7 @@ impl Predecessor {
     }
 
     /// A node at which a search begins.
-    pub(crate) fn root() -> Predecessor
+    pub fn root() -> Predecessor
         ensures { result ≡ root_node }
     {
         Predecessor {
@@ -53,7 +53,7 @@ impl Predecessor {
 }
 
 /// The residual arc that leaves at an end of an arc.
-pub(crate) fn leaving(end: u32) -> ResidualArc
+pub fn leaving(end: u32) -> ResidualArc
     ensures { result ≡ arc_from end }
 {
     ResidualArc {

@@ -6,11 +6,11 @@ use Rattle.std.proofs.lemmas.List.{get_or_past}
 use Rattle.dimacs_text.specs.declared.problem.ArcRow.{ArcRow}
 use Rattle.network.specs.Flow.{MinCost, AllEndsAreNodes, IsCertifiedFlow, IsNode}
 use Rattle.residual_graph.specs.declared.residual.Way.{Way}
-use Rattle.shortest_paths.specs.declared.predecessor.Predecessor.{Predecessor}
+use Rattle.predecessors.specs.declared.predecessor.Predecessor.{Predecessor}
 use Rattle.residual_graph.specs.Residual.{AreGreatest, NoneBelowBy, number_at, start_at}
 use Rattle.residual_graph.proofs.NodeNumbers.{ends_in}
 use Rattle.residual_graph.proofs.Slackness.{none_below_of}
-use Rattle.shortest_paths.specs.Predecessor.{IsTracedAt, arc_to, rank_at, way_to}
+use Rattle.predecessors.specs.Predecessor.{IsTracedAt, arc_to, rank_at, way_to}
 
 -- labels that are 0 or come along residual arcs are the greatest: what certifies the flow is no greater at the nodes of lower rank
 module _ (arcs : List ArcRow) (x q : List ℤ) (t : List Predecessor) (traced : (v : ℕ) → v < length q → IsTracedAt arcs x q t v) where

@@ -1,6 +1,6 @@
 use Rattle.std.proofs.Common.{arith}
 use Rattle.std.proofs.lemmas.Int.{ints}
-use Rattle.shortest_paths.proofs.predecessor.comes_along.Goals as goal
+use Rattle.predecessors.proofs.predecessor.comes_along.Goals as goal
 
 pub reduced_along-requires-clause-labels : goal.reduced_along-requires-clause-labels
 reduced_along-requires-clause-labels c = record {

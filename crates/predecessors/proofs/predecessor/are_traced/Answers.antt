@@ -1,6 +1,6 @@
 use Rattle.std.proofs.Common.{arith}
-use Rattle.shortest_paths.proofs.LabelLemmas.{greatest_of}
-use Rattle.shortest_paths.proofs.predecessor.are_traced.Goals as goal
+use Rattle.predecessors.proofs.LabelLemmas.{greatest_of}
+use Rattle.predecessors.proofs.predecessor.are_traced.Goals as goal
 
 pub returns-clause-traced : goal.returns-clause-traced
 returns-clause-traced c = λ yes v lt. c.loop-v.invariant.traced v (omega (arith, lt, c.loop-v-test.false))
