@@ -150,9 +150,9 @@ def _decimal_mark(cell: str) -> Optional[str]:
     last = marks[-1]
     other = "," if last == "." else "."
     if len(set(marks)) == 2:
-        return last if re.fullmatch(rf"\d{{1,3}}(\{other}\d{{3}})+\{last}\d*", body) else ""
+        return last if re.fullmatch(rf"[1-9]\d{{0,2}}(\{other}\d{{3}})+\{last}\d*", body) else ""
     if len(marks) > 1:
-        return other if re.fullmatch(rf"\d{{1,3}}(\{last}\d{{3}})+", body) else ""
+        return other if re.fullmatch(rf"[1-9]\d{{0,2}}(\{last}\d{{3}})+", body) else ""
     before, behind = body.split(last)
     if len(behind) == 3 and 1 <= len(before) <= 3 and before[0] != "0" and not found[3]:
         return None
@@ -227,7 +227,7 @@ class Numbers(Dict[Any, Optional[Decimal]]):
         found = _WELL_FORMED.fullmatch(cell)
         text = cell
         if found and thousands in cell:
-            if not re.fullmatch(rf"[+-]?\d{{1,3}}(\{thousands}\d{{3}})+(\{mark}\d*)?", cell, re.ASCII):
+            if not re.fullmatch(rf"[+-]?[1-9]\d{{0,2}}(\{thousands}\d{{3}})+(\{mark}\d*)?", cell, re.ASCII):
                 raise CellFault(f"a number was expected, and decimals are parted by {shown(mark)} here")
             text = cell.replace(thousands, "")
         try:
@@ -255,7 +255,7 @@ class Coordinates(Numbers):
 def number_hint(cell: str) -> str:
     """What to do about a cell that is no number, for the commonest mistakes."""
     lower = cell.lower()
-    if _WELL_FORMED.fullmatch(cell) and re.search("[eE]", cell):
+    if _WELL_FORMED.fullmatch(cell) and (re.search("[eE]", cell) or sum(map(str.isdigit, cell)) > 60):
         return ", of at most 60 digits"
     if ERROR.fullmatch(cell):
         return ", and this is an error of the spreadsheet"

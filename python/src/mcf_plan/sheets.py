@@ -8,7 +8,7 @@ from dataclasses import dataclass, field
 from pathlib import Path
 from typing import Any, Dict, FrozenSet, List, Optional, Sequence, Tuple
 
-from .cells import TableFault, is_empty, shown
+from .cells import TableFault, is_empty, not_plain, shown
 
 DELIMITERS = ",;\t|"
 WORKBOOKS = (".xlsx", ".xlsm")
@@ -58,6 +58,13 @@ def sheet_of_rows(
     """The sheet of rows of cells, none of them empty, of which the first names the columns."""
     if not rows:
         raise TableFault(f"{name}: the table is empty: a row with the names of the columns comes first")
+    for cell in rows[0]:
+        wrong = not_plain(cell)
+        if wrong:
+            raise TableFault(
+                f"{name}, {word} {lines[0]}: {shown(cell)} stands there; the name of a column was expected, and this is "
+                f"{wrong}"
+            )
     header = ["" if is_empty(cell) else str(cell).strip() for cell in rows[0]]
     while header and not header[-1]:
         header.pop()
@@ -160,6 +167,8 @@ def _decoded(raw: bytes, name: str, encoding: Optional[str]) -> str:
         raise TableFault(f"{name}: this is a spreadsheet by another name; give it its ending .xlsx")
     if raw[:2] in (b"\xff\xfe", b"\xfe\xff"):
         encoding = "utf-16"
+    elif raw[:3] == b"\xef\xbb\xbf":
+        encoding = None  # It is UTF-8, whatever the other table is.
     try:
         text = raw.decode(encoding or "utf-8-sig")
     except LookupError:
