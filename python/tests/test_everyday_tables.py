@@ -210,6 +210,44 @@ class Workbooks(InFolder):
             ("merged cells", lambda sheet: sheet.append([None, "Berlin", 9, 1]), "row 3, column 'from': .* a name was"),
             ("empty rows", lambda sheet: sheet.insert_rows(1, 3), "cost 12.5"),
             ("a text below", lambda sheet: sheet.cell(5, 1, "Source: survey"), "row 5, column 'to': .* a name was"),
+            (
+                "a capacity over two rows",
+                lambda sheet: sheet.append(["Kiel", "Berlin", None, 1]) or sheet.merge_cells("C2:C3"),
+                "row 3, column 'capacity': a part of C2:C3 stands there; .* merged: part them",
+            ),
+            (
+                "a number over two columns",
+                lambda sheet: sheet.merge_cells("C2:D2"),
+                "row 2, column 'cost': a part of C2:D2 stands there; .* merged",
+            ),
+            (
+                "a name over two rows",
+                lambda sheet: sheet.append([None, "Berlin", 9, 1]) or sheet.merge_cells("A2:A3"),
+                "row 3, column 'from': a part of A2:A3 stands there; .* merged",
+            ),
+            (
+                "merged cells in which nothing stands",
+                lambda sheet: sheet.cell(2, 3).__setattr__("value", None)
+                or sheet.append(["Kiel", "Berlin", None, 3])
+                or sheet.merge_cells("C2:C3"),
+                "cost 12.5",
+            ),
+            (
+                "a product over two rows",
+                lambda sheet: [sheet.cell(1, 5, "product"), sheet.cell(2, 5, "coal")]
+                + [sheet.append(["Kiel", "Berlin", 9, 3]), sheet.merge_cells("E2:E3")],
+                "cost 12.5",
+            ),
+            (
+                "cells beside the table that are merged",
+                lambda sheet: sheet.cell(1, 6, "") or sheet.cell(2, 6, "see there") or sheet.merge_cells("F2:H2"),
+                "cost 12.5",
+            ),
+            (
+                "a formula over a column",
+                lambda sheet: sheet["C1"].__setattr__("value", '="capa"&"city"'),
+                'row 1: \'="capa"&"city"\' stands there; the name of a column was expected, .* without a kept value',
+            ),
         ):
             path = book("book.xlsx", nodes=NODES, arcs=[HEAD, ["Kiel", "Berlin", 9, 2.5]])
             made = openpyxl.load_workbook(path)

@@ -29,6 +29,12 @@ class NoValue(NamedTuple):
     formula: str
 
 
+class Merged(NamedTuple):
+    """A cell of a spreadsheet that is merged with others and is not the first of them, which has what all show."""
+
+    area: str
+
+
 ERROR = re.compile(r"#(N/?[AVD]|\S*[!?])|#{2,}|Err:\d+|#¿.*\?")
 """Errors of spreadsheets in the languages that they are written in: #N/A, #NV, #REF!, #¡VALOR!, #NAME?, Err:502."""
 
@@ -64,9 +70,11 @@ def shown(cell: Any) -> str:
     """A cell as messages show it."""
     if isinstance(cell, NoValue):
         return repr("=" + cell.formula if cell.formula else "=")
+    if isinstance(cell, Merged):
+        return f"a part of {cell.area}"
     if is_truth(cell):
         return "TRUE" if cell else "FALSE"
-    if isinstance(cell, datetime.date):
+    if isinstance(cell, (datetime.date, datetime.time)):
         return repr(cell.isoformat().replace("T00:00:00", ""))
     text = repr(cell)
     return text if len(text) <= 60 else text[:57] + "..."
@@ -76,6 +84,8 @@ def not_plain(cell: Any) -> Optional[str]:
     """What is wrong with a cell that is neither a number nor a name; None where it may be one of them."""
     if isinstance(cell, NoValue):
         return "a formula without a kept value: open the workbook in a spreadsheet program and save it"
+    if isinstance(cell, Merged):
+        return "one of several cells that are merged: part them, and write in each what counts there"
     if is_truth(cell):
         return "a truth value, which is no number and no name"
     if isinstance(cell, str) and ERROR.fullmatch(cell.strip()):

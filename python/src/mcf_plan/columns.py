@@ -11,7 +11,7 @@ import unicodedata
 from dataclasses import dataclass, field
 from typing import Collection, Dict, List, Mapping, NamedTuple, Optional, Sequence, Tuple
 
-from .cells import TableFault, is_empty
+from .cells import Merged, TableFault, is_empty
 from .measures import Unit, unit_of
 from .sheets import Sheet
 from .vocabulary import (
@@ -237,7 +237,8 @@ def _is_left_aside(sheet: Sheet, place: int, kinds: Sequence[str], taken: Collec
     """Whether a column that matches nothing is to be told as left aside; False where it is empty. Raises TableFault
     where it looks like one that matters."""
     header = sheet.header[place]
-    cells = {cell for cell in map(str, sheet.columns[place]) if not is_empty(cell)} - {"nan", "None", "<NA>", "NaT"}
+    held = (str(cell) for cell in sheet.columns[place] if not isinstance(cell, Merged))
+    cells = {cell for cell in held if not is_empty(cell)} - {"nan", "None", "<NA>", "NaT"}
     name = folded(header)
     if not name or name in HARMLESS:
         return bool(cells)

@@ -17,7 +17,7 @@ from typing import Any, Dict, FrozenSet, Iterator, List, NamedTuple, Sequence, S
 from xml.etree import ElementTree
 from xml.sax.saxutils import escape, quoteattr
 
-from .cells import NoValue, TableFault, is_empty
+from .cells import Merged, NoValue, TableFault, is_empty
 from .sheets import Sheet, sheet_of_rows
 
 WORKBOOK = "xl/workbook.xml"
@@ -182,6 +182,7 @@ class _Reader:
         """The rows of a sheet, filled up to the same width, and their numbers."""
         rows: List[Dict[int, Any]] = []
         lines: List[int] = []
+        merged: List[str] = []
         width = number = 0
         try:
             with self.file.open(part) as raw:
@@ -199,6 +200,9 @@ class _Reader:
                             rows.append(cells)
                             width = max(width, *cells)
                         element.clear()
+                    elif _local(element) == "mergeCell":
+                        merged.append(element.get("ref", ""))
+            _mark_merged(dict(zip(lines, rows)), merged)
         except (ElementTree.ParseError, KeyError, ValueError, IndexError, zipfile.BadZipFile) as error:
             raise TableFault(f"{self.path.name}: the part {part} can't be read: {error}") from None
         return [[cells.get(place, "") for place in range(width + 1)] for cells in rows], lines
@@ -250,6 +254,27 @@ def _place(name: str) -> int:
             break
         place = place * 26 + ord(letter.upper()) - 64
     return place - 1
+
+
+def _mark_merged(rows: Dict[int, Dict[int, Any]], areas: Sequence[str]) -> None:
+    """Marks the cells of merged areas that would be read as empty: what the first one has is shown for all of them.
+
+    `rows` are the cells by the numbers of the rows, the names of the columns first. Cells beside the table, and areas
+    in which nothing stands, stay as they are.
+    """
+    heading, last = min(rows, default=0), max(rows, default=0)
+    for area in areas:
+        corners = re.fullmatch(r"([A-Z]+)(\d+):([A-Z]+)(\d+)", area)
+        if corners is None:
+            continue
+        left, top, right, bottom = _place(corners[1]), int(corners[2]), _place(corners[3]), int(corners[4])
+        if left not in rows.get(top, {}):
+            continue
+        places = [place for place in rows[heading] if left <= place <= right]
+        for number in range(max(top, heading + 1), min(bottom, last) + 1):
+            for place in places:
+                if number in rows and (number, place) != (top, left):
+                    rows[number][place] = Merged(area)
 
 
 def _text_of(element: ElementTree.Element) -> str:
