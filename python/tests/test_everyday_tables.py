@@ -258,6 +258,29 @@ class Workbooks(InFolder):
                 self.assertRegex(out + errors, wanted)
 
     @needs("openpyxl")
+    def test_names_that_are_dates_and_times(self):
+        import datetime
+
+        import openpyxl
+        from openpyxl.utils.datetime import CALENDAR_MAC_1904, CALENDAR_WINDOWS_1900
+
+        for cell, wanted in (
+            (datetime.datetime(2026, 5, 3), "2026-05-03"),
+            (datetime.datetime(2024, 5, 1, 8, 30), "2024-05-01 08:30:00"),
+            (datetime.time(8, 30), "08:30:00"),
+            (datetime.time(0, 0), "00:00:00"),
+        ):
+            for epoch in (CALENDAR_WINDOWS_1900, CALENDAR_MAC_1904):
+                with self.subTest(f"{cell} since {epoch}"):
+                    made = openpyxl.Workbook()
+                    made.epoch = epoch
+                    for row in (HEAD, [cell, "Berlin", 9, 2.5]):
+                        made.active.append(row)
+                    made.save("arcs.xlsx")
+                    Path("nodes.csv").write_text(f"name,supply\n{wanted},5\nBerlin,-5\n")
+                    self.assertEqual(read_tables("nodes.csv", "arcs.xlsx").arcs[0].tail, wanted)
+
+    @needs("openpyxl")
     def test_formulas_with_kept_values(self):
         arcs = [HEAD, ["Kiel", "=A2", "=4+5", "=5/2"], ["Kiel", "Berlin", '=IF(1,"","")', 9]]
         for title, values, wanted in (

@@ -13,7 +13,7 @@ import posixpath
 import re
 import zipfile
 from pathlib import Path
-from typing import Any, Dict, FrozenSet, Iterator, List, NamedTuple, Sequence, Set, Tuple
+from typing import Any, Dict, FrozenSet, Iterator, List, NamedTuple, Sequence, Set, Tuple, Union
 from xml.etree import ElementTree
 from xml.sax.saxutils import escape, quoteattr
 
@@ -31,6 +31,10 @@ DATE_FORMATS = frozenset((*range(14, 23), *range(27, 37), *range(45, 48), *range
 PERCENT_FORMATS = frozenset((9, 10))
 MOST_COLUMNS = 16_384
 DAY_0 = datetime.datetime(1899, 12, 30)
+DAY_0_OF_1904 = datetime.datetime(1904, 1, 1)
+"""The day from which workbooks count that began on old Macs."""
+MILLISECONDS = 86_400_000
+"""So many has a day."""
 HEAD = '<?xml version="1.0" encoding="UTF-8" standalone="yes"?>\n'
 
 
@@ -140,6 +144,8 @@ class _Reader:
         self.texts = [_text_of(each) for each in self._elements(parts.get("sharedStrings"), "si")]
         self.looks = self._looks(parts.get("styles"))
         self.struck_styles = self._struck_styles(parts.get("styles"))
+        of_1904 = any(each.get("date1904") in ("1", "true") for each in self._elements(WORKBOOK, "workbookPr"))
+        self.day_0 = DAY_0_OF_1904 if of_1904 else DAY_0
 
     def _elements(self, part: Any, name: str) -> Iterator[ElementTree.Element]:
         if part is not None and part in self.file.namelist():
@@ -242,7 +248,7 @@ class _Reader:
         style = int(cell.get("s", "0"))
         look = self.looks[style] if style < len(self.looks) else ""
         if look:
-            return _date(float(text)) if look == "date" else f"{float(text) * 100:g}%"
+            return _date(float(text), self.day_0) if look == "date" else f"{float(text) * 100:g}%"
         return int(text) if re.fullmatch(r"-?\d{1,15}", text) else float(text)
 
 
@@ -295,12 +301,15 @@ def _look_of(code: str) -> str:
     return "date" if re.search(r"[dmyhs]", bare, re.IGNORECASE) and "general" not in bare.lower() else ""
 
 
-def _date(days: float) -> Any:
-    """The date of a number of days; the number where it is none."""
+def _date(days: float, day_0: datetime.datetime) -> Union[datetime.datetime, datetime.time, float]:
+    """The date of a number of days, or the time of less than one, to the millisecond, as spreadsheets show it; the
+    number where it is none."""
     try:
-        return DAY_0 + datetime.timedelta(days=days)
+        since = round(days * MILLISECONDS)
+        date = day_0 + datetime.timedelta(milliseconds=since)
     except OverflowError:
         return days
+    return date.time() if 0 <= since < MILLISECONDS else date
 
 
 # ---------------------------------------------------------------- writing
