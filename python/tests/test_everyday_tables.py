@@ -645,6 +645,24 @@ class Maps(InFolder):
             ("an unknown property", [kiel, berlin, line(*ends, capacty=9, cost=2.5)], "did you mean 'capacity'"),
             ("a truth value", [kiel, berlin, line(*ends, capacity=True, cost=2.5)], "TRUE stands there"),
             ("no coordinates", [point([], name="Kiel"), line(*ends, **road)], "feature 1: its coordinates are not"),
+            ("a name with a point", [point(ends[0], name=1.0, supply=5), berlin, line(*ends, **road)], "\n1 .* Berlin"),
+            (
+                "a name with and without a point",
+                [
+                    point(ends[0], name=1.0, supply=5),
+                    berlin,
+                    line([0, 0], [1, 1], **{"from": 1, "to": "Berlin"}, **road),
+                ],
+                "cost 12.5",
+            ),
+            ("nothing in place of a feature", [kiel, berlin, None, line(*ends, **road)], "cost 12.5"),
+            ("no geometry", [kiel, berlin, {**area, "geometry": [1, 2]}], "feature 3: its geometry and its properties"),
+            ("no properties", [kiel, {**berlin, "properties": ["name"]}], "feature 2: its geometry and its properties"),
+            (
+                "a place that is too far",
+                [kiel, point([10**400, 0], name="Ulm")],
+                "feature 2: its coordinates are not",
+            ),
         ):
             Path("map.geojson").write_text(json.dumps({"type": "FeatureCollection", "features": features}))
             with self.subTest(title):
@@ -657,6 +675,8 @@ class Maps(InFolder):
             ("[1, 2", "no JSON"),
             ("[]", "no FeatureCollection"),
             ('{"type": "Feature"}', "no FeatureColl"),
+            ("[1" + "0" * 5000 + "]", "no JSON"),
+            ('{"features": [{"properties": {"cost": 1, "cost": 7}}]}', "map.json: an object has 'cost' twice"),
         ):
             Path("map.json").write_text(text)
             with self.subTest(text):

@@ -111,7 +111,7 @@ def name_of(cell: Any) -> str:
         raise CellFault(f"a name was expected, and this is {wrong}")
     if is_empty(cell):
         return ""
-    if isinstance(cell, float) and cell.is_integer():
+    if _is_whole(cell):
         cell = int(cell)
     if isinstance(cell, datetime.datetime) and cell.time() == datetime.time():
         cell = cell.date()
@@ -122,6 +122,13 @@ def name_of(cell: Any) -> str:
     if hidden:
         raise CellFault(f"a name was expected, and this one has a character that can't be seen, U+{ord(hidden[0]):04X}")
     return text
+
+
+def _is_whole(cell: Any) -> bool:
+    """Whether a cell is a whole number that may be written with a point."""
+    if isinstance(cell, Decimal):
+        return cell.is_finite() and cell.adjusted() <= 60 and cell == cell.to_integral_value()
+    return isinstance(cell, float) and cell.is_integer()
 
 
 # ---------------------------------------------------------------- numbers
