@@ -512,6 +512,30 @@ class Frames(unittest.TestCase):
                     self.assertEqual(read_tables(nodes, frame).solve().cost, Decimal(str(wanted)))
 
     @needs("pandas")
+    def test_short_floats(self):
+        import pandas
+
+        for dtype in ("float32", "float16", "Float32"):
+            with self.subTest(dtype):
+                nodes = pandas.DataFrame({"name": [7.0, 8.0], "supply": [0.5, -0.5]}).astype(dtype)
+                arcs = pandas.DataFrame(
+                    {"from": ["7", "7"], "to": ["8", "8"], "capacity": [0.3, None], "cost": [0.1, 2]}
+                )
+                problem = read_tables(nodes, arcs.astype({"capacity": dtype, "cost": dtype}))
+                self.assertEqual(
+                    [(arc.cap, arc.cost) for arc in problem.arcs], [(Decimal("0.3"), Decimal("0.1")), (None, 2)]
+                )
+                self.assertEqual(problem.nodes, {"7": Decimal("0.5"), "8": Decimal("-0.5")})
+
+    @needs("pandas")
+    def test_names_that_are_decimals(self):
+        import pandas
+
+        nodes = pandas.DataFrame({"id": [Decimal("1.00"), Decimal("1E+2")], "supply": [5, -5]})
+        arcs = pandas.DataFrame([[1, 100, 9, 2.5]], columns=HEAD)
+        self.assertEqual(list(read_tables(nodes, arcs).nodes), ["1", "100"])
+
+    @needs("pandas")
     def test_names_in_an_index(self):
         import pandas
 

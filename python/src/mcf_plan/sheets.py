@@ -221,7 +221,7 @@ def sheet_of_frame(frame: Any, name: str) -> Sheet:
     if not hasattr(frame, "columns") or not hasattr(frame, "iloc"):
         raise TypeError(f"{name} has to be a DataFrame of pandas, and is of type {type(frame).__name__}")
     header = [str(column).strip() for column in frame.columns]
-    columns: List[Sequence[Any]] = [frame.iloc[:, place].tolist() for place in range(len(header))]
+    columns: List[Sequence[Any]] = [_cells_of(frame.iloc[:, place]) for place in range(len(header))]
     lines = frame.index.tolist()
     kept = [number for number, row in enumerate(zip(*columns)) if any(not is_empty(cell) for cell in row)]
     if len(kept) != len(lines):
@@ -239,6 +239,16 @@ def sheet_of_frame(frame: Any, name: str) -> Sheet:
     elif any(isinstance(line, str) for line in lines):
         sheet.index, sheet.index_name = lines, "the index"
     return sheet
+
+
+def _cells_of(column: Any) -> List[Any]:
+    """The cells of a column of a frame. Short floats are taken as they are printed, as all others are: in 64 bits 0.1
+    would become 0.10000000149011612."""
+    dtype = column.dtype
+    if getattr(dtype, "kind", "") == "f" and dtype.itemsize < 8:
+        return [cell if is_empty(cell) else float(str(cell)) for cell in column.array]
+    cells: List[Any] = column.tolist()
+    return cells
 
 
 def _row_label(label: Any) -> str:
