@@ -146,6 +146,13 @@ def _told(sheet: Sheet, kinds: Sequence[str], chosen: Mapping[str, Sequence[str]
         for name in names:
             places = [place for place, header in enumerate(sheet.header) if header.strip() == name.strip()]
             places = places or [place for place, header in enumerate(sheet.header) if folded(header) == folded(name)]
+            for place in places:
+                other = told.get(place, "aside")
+                if what != "aside" != other and what != other:
+                    raise TableFault(
+                        f"{sheet.name}: the column {sheet.header[place]!r} is said to be {called(other)} and "
+                        f"{called(what)}; give the table with a column for each"
+                    )
             if not places and what != "aside":
                 raise TableFault(f"{sheet.name}: there is no column {name!r}; its columns are {sheet.its_columns()}")
             told.update(dict.fromkeys(places, what))
