@@ -118,7 +118,7 @@ class Words(unittest.TestCase):
             ("cap road9 1", "there is no arc road9"),
             ("cap a to b 1", "there are several arcs a to b: say which by its number: they are #1, #2"),
             ('cap "a b" 1', "there are several arcs a to b: say which by its number"),
-            ("cap #3 1", "there is no arc 2: they are numbered from 0 to 1"),
+            ("cap #3 1", "there is no arc #3 among 2 arcs"),
             ("supply a", "supply wants a node and a number; `help` tells more"),
             ("supply a b 1", "one name was expected, and 2 are there; names with blanks stand in quotes"),
             ("add a", "add wants both ends, and then pairs as `capacity 5 cost 2`; `help` tells more"),

@@ -195,7 +195,11 @@ class Command(unittest.TestCase):
         self.assertRegex(out, r"Kiel +Ulm +road +2 +2\.75 +1\.25 +any +4 +2 +2 +2\n")
         out, _ = self.run_it("ranges", self.nodes, self.arcs, "--only", "Kiel Bonn", "--only", "road", "--only", "#2")
         self.assertEqual(re.findall(r"^Kiel +(\w+)", out, re.M), ["Bonn", "Ulm", "Ulm"])
-        for wrong, words in (("#99", "there is no arc"), ("Kiel Ulm", "several arcs"), ("'", "No closing quotation")):
+        for wrong, words in (
+            ("#99", "there is no arc #99 among "),
+            ("Kiel Ulm", "several arcs"),
+            ("'", "a quotation mark or a backslash stands alone in '"),
+        ):
             _, errors = self.run_it("ranges", self.nodes, self.arcs, "--only", wrong, status=3)
             self.assertIn(words, errors)
 
@@ -304,6 +308,7 @@ class Command(unittest.TestCase):
             (("--cap", "nowhere", "--values", "1"), 3),
             (("--cap", "road", "--cost", "road", "--values", "1"), 2),
             (("--supply", "Rom", "--values", "1"), 3),
+            (("--supply", "Kiel", "--beside", "Kiel", "--values", "6"), 3),
             (("--cap", "road", "--values", "1", "--table", "sweep.txt"), 3),
         ):
             with self.subTest(words):

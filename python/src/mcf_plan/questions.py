@@ -12,6 +12,7 @@ from pathlib import Path
 from typing import Any, Dict, List, Optional, Tuple
 
 from .deadline import lift_alarm
+from .formats import counted
 from .plan import Infeasible, Plan
 from .printing import print_table, say
 from .problem import WIDE, Problem, exact, plain
@@ -40,9 +41,12 @@ def arc_of(problem: Problem, words: str) -> int:
         try:
             return problem.find_arc(words)
         except KeyError:
-            parts = shlex.split(words)
+            parts = _parts_of(words)
             if len(parts) == 1 and parts[0].startswith("#") and parts[0][1:].isdecimal():
-                return problem.find_arc(int(parts[0][1:]) - 1)
+                number = int(parts[0][1:])
+                if not 1 <= number <= len(problem.arcs):
+                    raise KeyError(f"there is no arc {parts[0]} among {counted(len(problem.arcs), 'arc')}") from None
+                return number - 1
             if len(parts) == 3 and parts[1] == "to":
                 del parts[1]
             if len(parts) == 2:
@@ -53,6 +57,14 @@ def arc_of(problem: Problem, words: str) -> int:
     except KeyError as error:
         quoted = "" if len(parts) < 3 else "; names with blanks stand in quotes, as in '\"Bad Aibling\" Ulm'"
         raise ValueError(f"{error.args[0]}{quoted}") from None
+
+
+def _parts_of(words: str) -> List[str]:
+    """The words by which an arc is named. Raises ValueError where a quotation mark is not closed."""
+    try:
+        return shlex.split(words)
+    except ValueError:
+        raise ValueError(f"a quotation mark or a backslash stands alone in {words}") from None
 
 
 def node_of(problem: Problem, name: str) -> str:
