@@ -378,11 +378,14 @@ class Workbooks(InFolder):
             ("book.xlsx:a/b", "a table is written as"),
             ("book.xlsx:" + 32 * "a", "is no name of a sheet"),
             ("../" + Path().resolve().name + "/book.xlsx", "take the place of a table that is read"),
+            ("book.xlsx:Nodes", "the sheet 'Nodes' is read, and this would take its place; take another name"),
+            ("book.xlsx:arcs", "the sheet 'arcs' is read"),
         ):
             with self.subTest(name):
                 status, _, errors = run(path, "--table", name)
                 self.assertEqual(status, 3)
                 self.assertRegex(errors, wanted)
+        self.assertRegex(run("book.xlsx:NODES", "other.xlsx:arcs", "--table", "book.xlsx:nodes")[2], "'nodes' is read")
         self.assertEqual(Path(path).read_bytes(), before)
         self.assertEqual(sorted(each.name for each in Path().iterdir()), ["book.xlsx", "other.xlsx"])
         self.assertEqual(self.told(path, "--table", "new.xlsx"), ("0: cost 12.5", ""))

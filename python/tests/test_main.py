@@ -292,6 +292,26 @@ class Command(unittest.TestCase):
         out, _ = self.run_it("sweep", self.nodes, self.arcs, "--supply", "Kiel", "--values", "1", status=1)
         self.assertIn("no plan", out)
 
+    def test_tables_are_kept(self):
+        """What is asked for takes the place of no table that is read."""
+        for command, *words in (
+            ("plan", "--table", self.arcs),
+            ("sweep", "--cap", "road", "--values", "1", "--table", self.nodes),
+            ("sweep", "--cap", "road", "--values", "1", "--chart", self.arcs),
+            ("convert", "-o", self.arcs),
+        ):
+            with self.subTest(words):
+                out, errors = self.run_it(command, self.nodes, self.arcs, *words, status=3)
+                name = Path(words[-1]).name
+                self.assertIn(f"mcf-plan: {name}: this would take the place of a table that is read; write", errors)
+                self.assertEqual(out, "")
+        commands = self.file(
+            "commands", "".join(f"{word} {self.arcs}\n" for word in ("write", "proof", "report", "table"))
+        )
+        out, _ = self.run_it("what-if", self.nodes, self.arcs, "--commands", commands)
+        self.assertEqual(out.count("refused, nothing is changed: arcs.csv: this would take the place of a table"), 4)
+        self.assertEqual((Path(self.nodes).read_text(), Path(self.arcs).read_text()), (NODES, ARCS))
+
     def test_sweep_over_values_below_0(self):
         """Those of a demand; argparse alone takes a list of them for an option."""
         asked = ("sweep", self.nodes, self.arcs, "--supply", "Ulm", "--beside", "Kiel", "--values")
@@ -313,6 +333,24 @@ class Command(unittest.TestCase):
         ):
             with self.subTest(words):
                 self.run_it("sweep", self.nodes, self.arcs, *words, status=status)
+
+    def test_commands_of_other_encodings(self):
+        """The mark of UTF-8 is none of the first command, and what is no UTF-8 is refused on its line alone."""
+        commands = Path(self.folder.name) / "commands"
+        commands.write_bytes(b"\xef\xbb\xbfcap road 1\r\ncap stra\xdfe 1\r\nundo\r\n")
+        out, errors = self.run_it("what-if", self.nodes, self.arcs, "--commands", str(commands))
+        self.assertEqual(errors, TAKEN)
+        self.assertEqual(
+            out.splitlines()[1:],
+            [
+                "what if> cap road 1",
+                "cost 14.25 (2.75 more)",
+                "what if> cap stra\\xdfe 1",
+                "refused, nothing is changed: there is no arc stra\\xdfe",
+                "what if> undo",
+                "cost 11.5 (2.75 less)",
+            ],
+        )
 
     def test_sweep_over_a_value_that_is_refused(self):
         """Nothing is printed then, and the status is not that of no plan."""

@@ -10,7 +10,7 @@ from contextlib import ExitStack
 from decimal import Decimal
 from io import StringIO
 from pathlib import Path
-from typing import Callable, Dict, Iterable, List, NoReturn, Optional, Tuple
+from typing import Callable, Dict, Iterable, List, NoReturn, Optional, TextIO, Tuple
 
 from . import __version__
 from .conversation import Conversation
@@ -31,7 +31,7 @@ from .rounding import MOST_DECIMALS, round_problem
 from .session import EditRefused, Session
 from .sheets import is_table
 from .signals import Terminated, die_of, hearing
-from .tables import COLUMNS, TableFault, check_output, read_tables, write_plan
+from .tables import COLUMNS, TableFault, check_kept, check_output, read_tables, write_plan
 
 NO_PLAN, USAGE, REFUSED, FAILED, UNBOUNDED, BEYOND, DISAGREE, TOO_LONG, INTERRUPTED = 1, 2, 3, 4, 6, 7, 8, 124, 130
 MOST_SECONDS = 100_000_000
@@ -503,6 +503,8 @@ def _tell_fault(fault: Fault, name: str, raw: bytes) -> None:
 
 
 def _convert(options: argparse.Namespace) -> int:
+    if options.output:
+        check_kept(options.output, options.tables)
     problem = _read_source(options)
     _tell_notes(problem.notes)
     rewriting = rewrite(problem, Options(options.surplus))
@@ -528,10 +530,15 @@ def _board(options: argparse.Namespace) -> int:
 
 def _what_if(options: argparse.Namespace) -> int:
     with ExitStack() as stack:
-        source = stack.enter_context(open(options.commands, encoding="utf-8")) if options.commands else sys.stdin
+        source = stack.enter_context(_commands(options.commands)) if options.commands else sys.stdin
         session = stack.enter_context(_opened(options))
-        Conversation(session, sys.stdout, source.isatty()).run(source)
+        Conversation(session, sys.stdout, source.isatty(), options.tables).run(source)
     return 0
+
+
+def _commands(name: str) -> TextIO:
+    """The file of commands. A name in it that is no UTF-8 is refused on its line."""
+    return open(name, encoding="utf-8-sig", errors="surrogateescape")
 
 
 def _opened(options: argparse.Namespace) -> Session:

@@ -21,7 +21,7 @@ from .report import json_text, to_json
 from .sensitivity import Ranges, SupplyPrice, ranges, supply_prices
 from .session import Session
 from .sweep import Point, What, points, row_of_values
-from .tables import check_output, write_table
+from .tables import check_kept, check_output, write_table
 
 OF_ARC = {"cap": "capacity", "low": "lower bound", "cost": "cost"}
 
@@ -291,7 +291,9 @@ def asked_number(options: argparse.Namespace, problem: Problem) -> Tuple[What, s
 def run_sweep(options: argparse.Namespace, problem: Problem) -> bool:
     """Runs `sweep`; whether any of the values has a plan."""
     if options.table:
-        check_output(options.table)
+        check_output(options.table, options.tables)
+    if options.chart:
+        check_kept(options.chart, options.tables)
     values = asked_values(options)
     what, words, now = asked_number(options, problem)
     with Session(problem, surplus=options.surplus) as session, Progress() as progress:
