@@ -14,7 +14,7 @@ from typing import Callable, Dict, Iterable, List, NoReturn, Optional, TextIO, T
 
 from . import __version__
 from .conversation import Conversation
-from .deadline import alarm, lift_alarm
+from .deadline import MOST_SECONDS, alarm, lift_alarm
 from .dimacs import Fault, find_answer_fault, find_fault, parse_problem
 from .explain import explain
 from .formats import as_str
@@ -34,8 +34,6 @@ from .signals import Terminated, die_of, hearing
 from .tables import COLUMNS, TableFault, check_kept, check_output, read_tables, write_plan
 
 NO_PLAN, USAGE, REFUSED, FAILED, UNBOUNDED, BEYOND, DISAGREE, TOO_LONG, INTERRUPTED = 1, 2, 3, 4, 6, 7, 8, 124, 130
-MOST_SECONDS = 100_000_000
-"""A time limit is below this, some three years: the system's clock takes no greater ones."""
 MOST_PORT = 65_535
 
 STATUSES = """status:
