@@ -180,6 +180,8 @@ class Workbooks(InFolder):
                 "'900%' stands there; .*percent",
             ),
             ("a date", lambda sheet: setattr(sheet["C2"], "number_format", "dd/mm/yy"), "'1900-01-08' stands there"),
+            ("hours", lambda sheet: setattr(sheet["C2"], "number_format", "[hh]"), "'1900-01-08' .* a date or a time"),
+            ("a colour", lambda sheet: setattr(sheet["C2"], "number_format", "[Red]0;[Blue]-0"), "cost 12.5"),
             ("a currency", lambda sheet: setattr(sheet["D2"], "number_format", '#,##0.00 "days"'), "cost 12.5"),
             (
                 "a hidden row",

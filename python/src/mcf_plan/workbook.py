@@ -295,7 +295,7 @@ def _unescaped(text: str) -> str:
 
 def _look_of(code: str) -> str:
     """What a format of numbers shows: 'date', 'percent', or '' for a plain number."""
-    bare = re.sub(r'"[^"]*"|\\.|\[[^\]]*\]|_.|\*.', "", code.split(";")[0])
+    bare = re.sub(r'"[^"]*"|\\.|\[(?!(h+|m+|s+)\])[^\]]*\]|_.|\*.', "", code.split(";")[0], flags=re.IGNORECASE)
     if "%" in bare:
         return "percent"
     return "date" if re.search(r"[dmyhs]", bare, re.IGNORECASE) and "general" not in bare.lower() else ""
