@@ -368,6 +368,19 @@ class Workbooks(InFolder):
         self.assertEqual(openpyxl.load_workbook(path, data_only=True)["arcs"]["D2"].value, 2.5)
 
     @needs("openpyxl")
+    def test_a_sheet_in_a_linked_workbook(self):
+        import openpyxl
+
+        Path("private").mkdir()
+        kept = Path(book("private/book.xlsx", nodes=NODES, arcs=[HEAD, ["Kiel", "Berlin", 9, 2.5]]))
+        kept.chmod(0o600)
+        Path("book.xlsx").symlink_to(kept)
+        self.assertEqual(self.told("book.xlsx", "--table", "book.xlsx:plan"), ("0: cost 12.5", ""))
+        self.assertTrue(Path("book.xlsx").is_symlink())
+        self.assertEqual(openpyxl.load_workbook(kept).sheetnames, ["nodes", "arcs", "plan"])
+        self.assertEqual(kept.stat().st_mode & 0o777, 0o600)
+
+    @needs("openpyxl")
     def test_tables_that_are_not_written(self):
         path = book("book.xlsx", nodes=NODES, arcs=[HEAD, ["Kiel", "Berlin", 9, 2.5]])
         before = Path(path).read_bytes()

@@ -11,6 +11,7 @@ import datetime
 import os
 import posixpath
 import re
+import shutil
 import zipfile
 from pathlib import Path
 from typing import Any, Dict, FrozenSet, Iterator, List, NamedTuple, Sequence, Set, Tuple, Union
@@ -413,12 +414,16 @@ def _escaped(text: str) -> str:
 
 
 def _replace(path: Path, parts: Sequence[Tuple[str, bytes]]) -> None:
-    """Writes the parts as a file that takes the place of the one that is there when it is whole."""
+    """Writes the parts as a file that takes the place of the one that is there when it is whole, for whom that was
+    there; a link stays one."""
+    path = path.resolve()
     new = path.with_name(path.name + ".new")
     try:
         with zipfile.ZipFile(new, "w", zipfile.ZIP_DEFLATED) as file:
             for name, content in parts:
                 file.writestr(zipfile.ZipInfo(name), content, zipfile.ZIP_DEFLATED)
+        if path.exists():
+            shutil.copymode(path, new)
         os.replace(new, path)
     finally:
         new.unlink(missing_ok=True)
