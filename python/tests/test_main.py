@@ -99,6 +99,28 @@ class Command(unittest.TestCase):
         self.assertIn("<svg", (folder / "plan.svg").read_text())
         self.assertIn("Kiel,Ulm,0,2,1.25,2,2.5,yes", (folder / "plan.csv").read_text())
 
+    def test_streams_that_are_closed(self):
+        for words, closed, status, out, errors in (
+            (("plan", self.nodes, self.arcs), "<&-", 0, "cost 11.5", TAKEN),
+            (("plan", self.nodes, self.arcs), "2>&-", 0, "cost 11.5", ""),
+            (("plan", self.nodes, self.arcs), ">&-", 4, "", "mcf-plan: the output is closed\n"),
+            (("plan", self.nodes, self.arcs), ">&- 2>&- <&-", 4, "", ""),
+            (("plan", self.nodes), "2>&-", 3, "", ""),
+            (("plan", "--nonsense"), "2>&-", 2, "", ""),
+            (("what-if", self.nodes, self.arcs), "<&-", 0, "cost 11.5", TAKEN),
+            (("plan", "-"), "<&-", 3, "", "mcf-plan: the problem: There is nothing in it."),
+        ):
+            with self.subTest(f"{words[0]} {closed}"):
+                done = subprocess.run(
+                    ["sh", "-c", f'exec "$@" {closed}', "sh", COMMAND, *words],
+                    capture_output=True,
+                    text=True,
+                    check=False,
+                )
+                self.assertEqual(done.returncode, status, done.stderr)
+                self.assertEqual((done.stdout[: len(out)], done.stderr[: len(errors)]), (out, errors))
+                self.assertEqual((bool(done.stdout), bool(done.stderr)), (bool(out), bool(errors)))
+
     def test_files_that_cannot_be_written(self):
         """What was asked for is not all there, so nothing is printed."""
         for command, *words in (

@@ -3,6 +3,7 @@
 from __future__ import annotations
 
 import argparse
+import os
 import re
 import sys
 import tempfile
@@ -51,6 +52,8 @@ STATUSES = """status:
 
 def main(arguments: Optional[List[str]] = None) -> int:
     """Runs the command and returns its status. A signal that asks the process to end does so."""
+    if not _streams_are_open():
+        return _say("the output is closed", FAILED)
     options = _parser().parse_args(joined_values(sys.argv[1:] if arguments is None else arguments))
     try:
         with hearing():
@@ -58,6 +61,15 @@ def main(arguments: Optional[List[str]] = None) -> int:
     except Terminated as ended:
         die_of(ended.number)
         return 128 + ended.number
+
+
+def _streams_are_open() -> bool:
+    """Whether what is printed goes anywhere. An input that is closed, for which Python has None, is as good as an empty
+    one, and notes may go nowhere."""
+    for name, mode in (("stdin", "r"), ("stderr", "w")):
+        if getattr(sys, name) is None:
+            setattr(sys, name, open(os.devnull, mode, encoding="utf-8"))
+    return getattr(sys, "stdout") is not None
 
 
 def _run(options: argparse.Namespace) -> int:
