@@ -546,6 +546,19 @@ class Frames(unittest.TestCase):
                 self.assertEqual(problem.nodes, {"7": Decimal("0.5"), "8": Decimal("-0.5")})
 
     @needs("pandas")
+    def test_ends_of_a_maximum_flow(self):
+        import pandas
+
+        for tail, head, source, sink in (
+            (1, 2, 1, 2),
+            (1, 2, 1.0, "2"),
+            ("K\u00f6ln", "New York", "Ko\u0308ln", " New  York "),
+        ):
+            with self.subTest(source):
+                arcs = pandas.DataFrame({"from": [tail], "to": [head], "capacity": [3]})
+                self.assertEqual(read_tables(None, arcs, kind="max", source=source, sink=sink).solve().cost, 3)
+
+    @needs("pandas")
     def test_names_that_are_decimals(self):
         import pandas
 

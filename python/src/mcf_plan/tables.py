@@ -59,7 +59,9 @@ def read_tables(
     Raises TableFault where a table is not understood, OSError where a file can't be read.
     """
     reading = Reading.of(columns, decimal, default_cost, encoding)
-    problem = Problem(kind, balance=balance, source=source, sink=sink)
+    # As the cells of tables, so that the node 1 of a frame is found, and one whose letters are made of other characters.
+    ends_of_flow = [None if name is None else name_of(name) for name in (source, sink)]
+    problem = Problem(kind, balance=balance, source=ends_of_flow[0], sink=ends_of_flow[1])
     node_sheet, arc_sheet = find_sheets(nodes, arcs, reading.encoding)
     _check_order(node_sheet, arc_sheet)
     _check_chosen(reading, node_sheet, arc_sheet)
