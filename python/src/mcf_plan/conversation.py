@@ -4,6 +4,7 @@ from __future__ import annotations
 
 import difflib
 import shlex
+import unicodedata
 from contextlib import ExitStack, suppress
 from decimal import Decimal
 from pathlib import Path
@@ -50,11 +51,12 @@ WANTED = {
 
 
 def words_of(line: str) -> List[str]:
-    """The words of a line; none of a remark. Raises EditRefused where a quotation mark is not closed."""
+    """The words of a line, their letters as tables have them; none of a remark. Raises EditRefused where a quotation
+    mark is not closed."""
     if line.lstrip().startswith("#"):
         return []
     try:
-        return shlex.split(line)
+        return shlex.split(unicodedata.normalize("NFC", line))
     except ValueError:
         raise EditRefused("a quotation mark or a backslash stands alone; names with blanks stand in quotes") from None
 

@@ -7,6 +7,7 @@ import json
 import re
 import shlex
 import sys
+import unicodedata
 from decimal import Decimal
 from pathlib import Path
 from typing import Any, Dict, List, Optional, Tuple
@@ -37,6 +38,7 @@ def arc_of(problem: Problem, words: str) -> int:
     >>> [arc_of(problem, words) for words in ("B 10", "Bad Aibling to Ulm", "'Bad Aibling' Ulm", "#1")]
     [0, 0, 0, 0]
     """
+    words = unicodedata.normalize("NFC", words)  # as the names of tables
     try:
         try:
             return problem.find_arc(words)
@@ -69,6 +71,7 @@ def _parts_of(words: str) -> List[str]:
 
 def node_of(problem: Problem, name: str) -> str:
     """The node of a name. Raises ValueError where there is none."""
+    name = unicodedata.normalize("NFC", name)
     if name not in problem.nodes:
         raise ValueError(f"there is no node {name}")
     return name
