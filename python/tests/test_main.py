@@ -99,6 +99,33 @@ class Command(unittest.TestCase):
         self.assertIn("<svg", (folder / "plan.svg").read_text())
         self.assertIn("Kiel,Ulm,0,2,1.25,2,2.5,yes", (folder / "plan.csv").read_text())
 
+    def test_a_text_of_another_kind(self):
+        """A text says its kind itself, and what is said of it beside that is not passed over."""
+        text = self.file("max.min", "p max 2 1\nn 1 s\nn 2 t\na 1 2 9\n")
+        for words, wanted in (
+            (("--kind", "asn"), "--kind asn is said, and the kind of this text is max"),
+            (("--kind", "max", "--source", "2", "--sink", "1"), "--source 2 is said, and the source of this text is 1"),
+        ):
+            with self.subTest(words):
+                self.assertIn(wanted, self.run_it("plan", text, *words, status=3)[1])
+        self.assertTrue(
+            self.run_it("plan", text, "--kind", "max", "--source", "1", "--sink", "2")[0].startswith("flow 9")
+        )
+        other = self.file("other.min", "p min 2 1\na 1 2 0 9 1\n")
+        self.assertIn("the kind of this text is min", self.run_it("plan", other, "--kind", "max", status=3)[1])
+        self.assertIn("the source of this text is none", self.run_it("plan", other, "--source", "1", status=3)[1])
+
+    def test_other_forms_of_letters(self):
+        nodes, arcs = self.file("n.csv", "name,supply\nK\u00f6ln,1\nUlm,-1\n"), self.file(
+            "a.csv", "from,to,cost\nK\u00f6ln,Ulm,2\n"
+        )
+        for words in (
+            ("sweep", nodes, arcs, "--supply", "Ko\u0308ln", "--beside", "Ulm", "--values", "1"),
+            ("ranges", nodes, arcs, "--only", "Ko\u0308ln Ulm"),
+            ("ranges", nodes, arcs, "--supplies", "--beside", "Ko\u0308ln"),
+        ):
+            self.run_it(*words)
+
     def test_streams_that_are_closed(self):
         for words, closed, status, out, errors in (
             (("plan", self.nodes, self.arcs), "<&-", 0, "cost 11.5", TAKEN),

@@ -357,6 +357,15 @@ def _read_source(options: argparse.Namespace) -> Problem:
         raise TableFault(f"{len(tables)} tables are given, and there are two: that of nodes, then that of arcs")
     if len(tables) == 1 and not is_table(tables[0]):
         problem = _read_problem_text(tables[0])
+        for what, said, own in (
+            ("kind", options.kind, problem.kind),
+            ("source", options.source, problem.source),
+            ("sink", options.sink, problem.sink),
+        ):
+            if said not in (None, "min", own):
+                raise TableFault(
+                    f"{tables[0]}: --{what} {said} is said, and the {what} of this text is {own or 'none'}"
+                )
         problem.balance = options.balance
         return problem if options.round is None else round_problem(problem, options.round)
     for what, name in (("--source", options.source), ("--sink", options.sink)):
