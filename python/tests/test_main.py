@@ -360,6 +360,10 @@ class Command(unittest.TestCase):
         out, _ = self.run_it("what-if", self.nodes, self.arcs, "--commands", commands)
         self.assertEqual(out.count("refused, nothing is changed: arcs.csv: this would take the place of a table"), 4)
         self.assertEqual((Path(self.nodes).read_text(), Path(self.arcs).read_text()), (NODES, ARCS))
+        texts = self.file("nodes.txt", NODES), self.file("arcs.txt", ARCS)
+        self.assertIn("take the place", self.run_it("convert", *texts, "-o", texts[1], status=3)[1])
+        problem = self.file("same.min", "p min 2 1\na 1 2 0 9 1\n")
+        self.assertEqual(self.run_it("convert", problem, "-o", problem), ("", ""))
 
     def test_sweep_over_values_below_0(self):
         """Those of a demand; argparse alone takes a list of them for an option."""

@@ -353,11 +353,11 @@ def plan_rows(plan: Plan) -> List[Tuple[str, ...]]:
     return rows
 
 
-def check_kept(path: Union[str, Path], inputs: Iterable[str]) -> None:
+def check_kept(path: Union[str, Path], inputs: Sequence[str]) -> None:
     """Raises TableFault where what is written would take the place of one of the tables `inputs`, or of a sheet that is
-    read."""
+    read; one alone may be a problem text, which a newer one may replace."""
     file, sheet = part_sheet(path)
-    for each in filter(is_table, inputs):
+    for each in inputs if len(inputs) != 1 or is_table(inputs[0]) else ():
         theirs, their_sheet = part_sheet(each)
         if not (file.exists() and theirs.exists() and file.samefile(theirs)):
             continue
@@ -369,7 +369,7 @@ def check_kept(path: Union[str, Path], inputs: Iterable[str]) -> None:
             )
 
 
-def check_output(path: Union[str, Path], inputs: Iterable[str] = ()) -> None:
+def check_output(path: Union[str, Path], inputs: Sequence[str] = ()) -> None:
     """Raises TableFault where a plan can't be written as a table of this name: its ending is unknown, or it is a
     workbook with other sheets, which would be lost, or one of the files `inputs`."""
     check_kept(path, inputs)
