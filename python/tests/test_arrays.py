@@ -160,6 +160,14 @@ class Arrays(unittest.TestCase):
         self.assertIsInstance(Problem.from_dimacs(problem.text()).solve(), Plan)
         self.assertIsInstance(Problem.from_dimacs(ArrayProblem([0], [1], [3], [1], [4, -4]).text()).solve(), Infeasible)
 
+    def test_columns_without_an_order(self) -> None:
+        tails, heads, caps, costs, supplies = DIAMOND
+        for column in (dict(enumerate(costs)), set(costs)):
+            with self.assertRaisesRegex(
+                ValueError, "a column is a list or an array, and this one is of type (dict|set)"
+            ):
+                solve_arrays(tails, heads, caps, column, supplies)
+
     def test_time_limit(self) -> None:
         for solver in [Program(), *LIBRARY]:
             begin = time.monotonic()

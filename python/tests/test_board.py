@@ -447,7 +447,8 @@ class ServerTest(unittest.TestCase):
         self.assertEqual(self.post(Content_Type="text/plain"), 415)
         self.assertEqual(self.post(path="/other"), 404)
         self.assertEqual(self.request("POST", "/do", **{**self.own, "Content-Length": str(MOST_BYTES + 1)})[0], 413)
-        self.assertEqual(self.request("POST", "/do", **{**self.own, "Content-Length": "-1"})[0], 413)
+        for length in ("-1", "9" * 5000, "\u00b2", "1.5"):
+            self.assertEqual(self.request("POST", "/do", **{**self.own, "Content-Length": length})[0], 413)
         self.assertEqual(self.post(), 200)
 
 

@@ -32,6 +32,20 @@ def answers(*lines: str, problem: Optional[Problem] = None) -> List[str]:
 REFUSED = "; the whole group is refused, and its lines up to `end` are passed over"
 
 
+class Names(unittest.TestCase):
+    def test_other_forms_of_letters(self) -> None:
+        """A name may have been typed with letters and accents apart, as some systems write them."""
+        problem = Problem()
+        problem.add_node("K\u00f6ln", 1)
+        problem.add_node("Ulm", -1)
+        problem.add_arc("K\u00f6ln", "Ulm", cost=2)
+        lines = ("cost Ko\u0308ln Ulm 3", "cost 'Ko\u0308ln to Ulm' 4", "supply Ko\u0308ln 2")
+        self.assertEqual(
+            answers(*lines, problem=problem),
+            ["cost 3 (1 more)", "cost 4 (1 more)", "no plan: short by 1; `why` tells more", "None True"],
+        )
+
+
 class Groups(unittest.TestCase):
     def test_group(self) -> None:
         self.assertEqual(answers("group", "cap cheap 4", "cost dear 5", "end"), ["cost 9 (2 less)", "9 True"])
@@ -118,7 +132,7 @@ class Words(unittest.TestCase):
             ("cap road9 1", "there is no arc road9"),
             ("cap a to b 1", "there are several arcs a to b: say which by its number: they are #1, #2"),
             ('cap "a b" 1', "there are several arcs a to b: say which by its number"),
-            ("cap #3 1", "there is no arc 2: they are numbered from 0 to 1"),
+            ("cap #3 1", "there is no arc #3 among 2 arcs"),
             ("supply a", "supply wants a node and a number; `help` tells more"),
             ("supply a b 1", "one name was expected, and 2 are there; names with blanks stand in quotes"),
             ("add a", "add wants both ends, and then pairs as `capacity 5 cost 2`; `help` tells more"),

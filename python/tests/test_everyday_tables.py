@@ -180,6 +180,8 @@ class Workbooks(InFolder):
                 "'900%' stands there; .*percent",
             ),
             ("a date", lambda sheet: setattr(sheet["C2"], "number_format", "dd/mm/yy"), "'1900-01-08' stands there"),
+            ("hours", lambda sheet: setattr(sheet["C2"], "number_format", "[hh]"), "'1900-01-08' .* a date or a time"),
+            ("a colour", lambda sheet: setattr(sheet["C2"], "number_format", "[Red]0;[Blue]-0"), "cost 12.5"),
             ("a currency", lambda sheet: setattr(sheet["D2"], "number_format", '#,##0.00 "days"'), "cost 12.5"),
             (
                 "a hidden row",
@@ -210,6 +212,44 @@ class Workbooks(InFolder):
             ("merged cells", lambda sheet: sheet.append([None, "Berlin", 9, 1]), "row 3, column 'from': .* a name was"),
             ("empty rows", lambda sheet: sheet.insert_rows(1, 3), "cost 12.5"),
             ("a text below", lambda sheet: sheet.cell(5, 1, "Source: survey"), "row 5, column 'to': .* a name was"),
+            (
+                "a capacity over two rows",
+                lambda sheet: sheet.append(["Kiel", "Berlin", None, 1]) or sheet.merge_cells("C2:C3"),
+                "row 3, column 'capacity': a part of C2:C3 stands there; .* merged: part them",
+            ),
+            (
+                "a number over two columns",
+                lambda sheet: sheet.merge_cells("C2:D2"),
+                "row 2, column 'cost': a part of C2:D2 stands there; .* merged",
+            ),
+            (
+                "a name over two rows",
+                lambda sheet: sheet.append([None, "Berlin", 9, 1]) or sheet.merge_cells("A2:A3"),
+                "row 3, column 'from': a part of A2:A3 stands there; .* merged",
+            ),
+            (
+                "merged cells in which nothing stands",
+                lambda sheet: sheet.cell(2, 3).__setattr__("value", None)
+                or sheet.append(["Kiel", "Berlin", None, 3])
+                or sheet.merge_cells("C2:C3"),
+                "cost 12.5",
+            ),
+            (
+                "a product over two rows",
+                lambda sheet: [sheet.cell(1, 5, "product"), sheet.cell(2, 5, "coal")]
+                + [sheet.append(["Kiel", "Berlin", 9, 3]), sheet.merge_cells("E2:E3")],
+                "cost 12.5",
+            ),
+            (
+                "cells beside the table that are merged",
+                lambda sheet: sheet.cell(1, 6, "") or sheet.cell(2, 6, "see there") or sheet.merge_cells("F2:H2"),
+                "cost 12.5",
+            ),
+            (
+                "a formula over a column",
+                lambda sheet: sheet["C1"].__setattr__("value", '="capa"&"city"'),
+                'row 1: \'="capa"&"city"\' stands there; the name of a column was expected, .* without a kept value',
+            ),
         ):
             path = book("book.xlsx", nodes=NODES, arcs=[HEAD, ["Kiel", "Berlin", 9, 2.5]])
             made = openpyxl.load_workbook(path)
@@ -218,6 +258,29 @@ class Workbooks(InFolder):
             with self.subTest(title):
                 _, out, errors = run(path)
                 self.assertRegex(out + errors, wanted)
+
+    @needs("openpyxl")
+    def test_names_that_are_dates_and_times(self):
+        import datetime
+
+        import openpyxl
+        from openpyxl.utils.datetime import CALENDAR_MAC_1904, CALENDAR_WINDOWS_1900
+
+        for cell, wanted in (
+            (datetime.datetime(2026, 5, 3), "2026-05-03"),
+            (datetime.datetime(2024, 5, 1, 8, 30), "2024-05-01 08:30:00"),
+            (datetime.time(8, 30), "08:30:00"),
+            (datetime.time(0, 0), "00:00:00"),
+        ):
+            for epoch in (CALENDAR_WINDOWS_1900, CALENDAR_MAC_1904):
+                with self.subTest(f"{cell} since {epoch}"):
+                    made = openpyxl.Workbook()
+                    made.epoch = epoch
+                    for row in (HEAD, [cell, "Berlin", 9, 2.5]):
+                        made.active.append(row)
+                    made.save("arcs.xlsx")
+                    Path("nodes.csv").write_text(f"name,supply\n{wanted},5\nBerlin,-5\n")
+                    self.assertEqual(read_tables("nodes.csv", "arcs.xlsx").arcs[0].tail, wanted)
 
     @needs("openpyxl")
     def test_formulas_with_kept_values(self):
@@ -305,6 +368,19 @@ class Workbooks(InFolder):
         self.assertEqual(openpyxl.load_workbook(path, data_only=True)["arcs"]["D2"].value, 2.5)
 
     @needs("openpyxl")
+    def test_a_sheet_in_a_linked_workbook(self):
+        import openpyxl
+
+        Path("private").mkdir()
+        kept = Path(book("private/book.xlsx", nodes=NODES, arcs=[HEAD, ["Kiel", "Berlin", 9, 2.5]]))
+        kept.chmod(0o600)
+        Path("book.xlsx").symlink_to(kept)
+        self.assertEqual(self.told("book.xlsx", "--table", "book.xlsx:plan"), ("0: cost 12.5", ""))
+        self.assertTrue(Path("book.xlsx").is_symlink())
+        self.assertEqual(openpyxl.load_workbook(kept).sheetnames, ["nodes", "arcs", "plan"])
+        self.assertEqual(kept.stat().st_mode & 0o777, 0o600)
+
+    @needs("openpyxl")
     def test_tables_that_are_not_written(self):
         path = book("book.xlsx", nodes=NODES, arcs=[HEAD, ["Kiel", "Berlin", 9, 2.5]])
         before = Path(path).read_bytes()
@@ -317,11 +393,14 @@ class Workbooks(InFolder):
             ("book.xlsx:a/b", "a table is written as"),
             ("book.xlsx:" + 32 * "a", "is no name of a sheet"),
             ("../" + Path().resolve().name + "/book.xlsx", "take the place of a table that is read"),
+            ("book.xlsx:Nodes", "the sheet 'Nodes' is read, and this would take its place; take another name"),
+            ("book.xlsx:arcs", "the sheet 'arcs' is read"),
         ):
             with self.subTest(name):
                 status, _, errors = run(path, "--table", name)
                 self.assertEqual(status, 3)
                 self.assertRegex(errors, wanted)
+        self.assertRegex(run("book.xlsx:NODES", "other.xlsx:arcs", "--table", "book.xlsx:nodes")[2], "'nodes' is read")
         self.assertEqual(Path(path).read_bytes(), before)
         self.assertEqual(sorted(each.name for each in Path().iterdir()), ["book.xlsx", "other.xlsx"])
         self.assertEqual(self.told(path, "--table", "new.xlsx"), ("0: cost 12.5", ""))
@@ -449,6 +528,43 @@ class Frames(unittest.TestCase):
                         read_tables(nodes, frame)
                 else:
                     self.assertEqual(read_tables(nodes, frame).solve().cost, Decimal(str(wanted)))
+
+    @needs("pandas")
+    def test_short_floats(self):
+        import pandas
+
+        for dtype in ("float32", "float16", "Float32"):
+            with self.subTest(dtype):
+                nodes = pandas.DataFrame({"name": [7.0, 8.0], "supply": [0.5, -0.5]}).astype(dtype)
+                arcs = pandas.DataFrame(
+                    {"from": ["7", "7"], "to": ["8", "8"], "capacity": [0.3, None], "cost": [0.1, 2]}
+                )
+                problem = read_tables(nodes, arcs.astype({"capacity": dtype, "cost": dtype}))
+                self.assertEqual(
+                    [(arc.cap, arc.cost) for arc in problem.arcs], [(Decimal("0.3"), Decimal("0.1")), (None, 2)]
+                )
+                self.assertEqual(problem.nodes, {"7": Decimal("0.5"), "8": Decimal("-0.5")})
+
+    @needs("pandas")
+    def test_ends_of_a_maximum_flow(self):
+        import pandas
+
+        for tail, head, source, sink in (
+            (1, 2, 1, 2),
+            (1, 2, 1.0, "2"),
+            ("K\u00f6ln", "New York", "Ko\u0308ln", " New  York "),
+        ):
+            with self.subTest(source):
+                arcs = pandas.DataFrame({"from": [tail], "to": [head], "capacity": [3]})
+                self.assertEqual(read_tables(None, arcs, kind="max", source=source, sink=sink).solve().cost, 3)
+
+    @needs("pandas")
+    def test_names_that_are_decimals(self):
+        import pandas
+
+        nodes = pandas.DataFrame({"id": [Decimal("1.00"), Decimal("1E+2")], "supply": [5, -5]})
+        arcs = pandas.DataFrame([[1, 100, 9, 2.5]], columns=HEAD)
+        self.assertEqual(list(read_tables(nodes, arcs).nodes), ["1", "100"])
 
     @needs("pandas")
     def test_names_in_an_index(self):
@@ -584,6 +700,24 @@ class Maps(InFolder):
             ("an unknown property", [kiel, berlin, line(*ends, capacty=9, cost=2.5)], "did you mean 'capacity'"),
             ("a truth value", [kiel, berlin, line(*ends, capacity=True, cost=2.5)], "TRUE stands there"),
             ("no coordinates", [point([], name="Kiel"), line(*ends, **road)], "feature 1: its coordinates are not"),
+            ("a name with a point", [point(ends[0], name=1.0, supply=5), berlin, line(*ends, **road)], "\n1 .* Berlin"),
+            (
+                "a name with and without a point",
+                [
+                    point(ends[0], name=1.0, supply=5),
+                    berlin,
+                    line([0, 0], [1, 1], **{"from": 1, "to": "Berlin"}, **road),
+                ],
+                "cost 12.5",
+            ),
+            ("nothing in place of a feature", [kiel, berlin, None, line(*ends, **road)], "cost 12.5"),
+            ("no geometry", [kiel, berlin, {**area, "geometry": [1, 2]}], "feature 3: its geometry and its properties"),
+            ("no properties", [kiel, {**berlin, "properties": ["name"]}], "feature 2: its geometry and its properties"),
+            (
+                "a place that is too far",
+                [kiel, point([10**400, 0], name="Ulm")],
+                "feature 2: its coordinates are not",
+            ),
         ):
             Path("map.geojson").write_text(json.dumps({"type": "FeatureCollection", "features": features}))
             with self.subTest(title):
@@ -596,6 +730,8 @@ class Maps(InFolder):
             ("[1, 2", "no JSON"),
             ("[]", "no FeatureCollection"),
             ('{"type": "Feature"}', "no FeatureColl"),
+            ("[1" + "0" * 5000 + "]", "no JSON"),
+            ('{"features": [{"properties": {"cost": 1, "cost": 7}}]}', "map.json: an object has 'cost' twice"),
         ):
             Path("map.json").write_text(text)
             with self.subTest(text):

@@ -99,6 +99,55 @@ class Command(unittest.TestCase):
         self.assertIn("<svg", (folder / "plan.svg").read_text())
         self.assertIn("Kiel,Ulm,0,2,1.25,2,2.5,yes", (folder / "plan.csv").read_text())
 
+    def test_a_text_of_another_kind(self):
+        """A text says its kind itself, and what is said of it beside that is not passed over."""
+        text = self.file("max.min", "p max 2 1\nn 1 s\nn 2 t\na 1 2 9\n")
+        for words, wanted in (
+            (("--kind", "asn"), "--kind asn is said, and the kind of this text is max"),
+            (("--kind", "max", "--source", "2", "--sink", "1"), "--source 2 is said, and the source of this text is 1"),
+        ):
+            with self.subTest(words):
+                self.assertIn(wanted, self.run_it("plan", text, *words, status=3)[1])
+        self.assertTrue(
+            self.run_it("plan", text, "--kind", "max", "--source", "1", "--sink", "2")[0].startswith("flow 9")
+        )
+        other = self.file("other.min", "p min 2 1\na 1 2 0 9 1\n")
+        self.assertIn("the kind of this text is min", self.run_it("plan", other, "--kind", "max", status=3)[1])
+        self.assertIn("the source of this text is none", self.run_it("plan", other, "--source", "1", status=3)[1])
+
+    def test_other_forms_of_letters(self):
+        nodes, arcs = self.file("n.csv", "name,supply\nK\u00f6ln,1\nUlm,-1\n"), self.file(
+            "a.csv", "from,to,cost\nK\u00f6ln,Ulm,2\n"
+        )
+        for words in (
+            ("sweep", nodes, arcs, "--supply", "Ko\u0308ln", "--beside", "Ulm", "--values", "1"),
+            ("ranges", nodes, arcs, "--only", "Ko\u0308ln Ulm"),
+            ("ranges", nodes, arcs, "--supplies", "--beside", "Ko\u0308ln"),
+        ):
+            self.run_it(*words)
+
+    def test_streams_that_are_closed(self):
+        for words, closed, status, out, errors in (
+            (("plan", self.nodes, self.arcs), "<&-", 0, "cost 11.5", TAKEN),
+            (("plan", self.nodes, self.arcs), "2>&-", 0, "cost 11.5", ""),
+            (("plan", self.nodes, self.arcs), ">&-", 4, "", "mcf-plan: the output is closed\n"),
+            (("plan", self.nodes, self.arcs), ">&- 2>&- <&-", 4, "", ""),
+            (("plan", self.nodes), "2>&-", 3, "", ""),
+            (("plan", "--nonsense"), "2>&-", 2, "", ""),
+            (("what-if", self.nodes, self.arcs), "<&-", 0, "cost 11.5", TAKEN),
+            (("plan", "-"), "<&-", 3, "", "mcf-plan: the problem: There is nothing in it."),
+        ):
+            with self.subTest(f"{words[0]} {closed}"):
+                done = subprocess.run(
+                    ["sh", "-c", f'exec "$@" {closed}', "sh", COMMAND, *words],
+                    capture_output=True,
+                    text=True,
+                    check=False,
+                )
+                self.assertEqual(done.returncode, status, done.stderr)
+                self.assertEqual((done.stdout[: len(out)], done.stderr[: len(errors)]), (out, errors))
+                self.assertEqual((bool(done.stdout), bool(done.stderr)), (bool(out), bool(errors)))
+
     def test_files_that_cannot_be_written(self):
         """What was asked for is not all there, so nothing is printed."""
         for command, *words in (
@@ -195,7 +244,11 @@ class Command(unittest.TestCase):
         self.assertRegex(out, r"Kiel +Ulm +road +2 +2\.75 +1\.25 +any +4 +2 +2 +2\n")
         out, _ = self.run_it("ranges", self.nodes, self.arcs, "--only", "Kiel Bonn", "--only", "road", "--only", "#2")
         self.assertEqual(re.findall(r"^Kiel +(\w+)", out, re.M), ["Bonn", "Ulm", "Ulm"])
-        for wrong, words in (("#99", "there is no arc"), ("Kiel Ulm", "several arcs"), ("'", "No closing quotation")):
+        for wrong, words in (
+            ("#99", "there is no arc #99 among "),
+            ("Kiel Ulm", "several arcs"),
+            ("'", "a quotation mark or a backslash stands alone in '"),
+        ):
             _, errors = self.run_it("ranges", self.nodes, self.arcs, "--only", wrong, status=3)
             self.assertIn(words, errors)
 
@@ -288,6 +341,30 @@ class Command(unittest.TestCase):
         out, _ = self.run_it("sweep", self.nodes, self.arcs, "--supply", "Kiel", "--values", "1", status=1)
         self.assertIn("no plan", out)
 
+    def test_tables_are_kept(self):
+        """What is asked for takes the place of no table that is read."""
+        for command, *words in (
+            ("plan", "--table", self.arcs),
+            ("sweep", "--cap", "road", "--values", "1", "--table", self.nodes),
+            ("sweep", "--cap", "road", "--values", "1", "--chart", self.arcs),
+            ("convert", "-o", self.arcs),
+        ):
+            with self.subTest(words):
+                out, errors = self.run_it(command, self.nodes, self.arcs, *words, status=3)
+                name = Path(words[-1]).name
+                self.assertIn(f"mcf-plan: {name}: this would take the place of a table that is read; write", errors)
+                self.assertEqual(out, "")
+        commands = self.file(
+            "commands", "".join(f"{word} {self.arcs}\n" for word in ("write", "proof", "report", "table"))
+        )
+        out, _ = self.run_it("what-if", self.nodes, self.arcs, "--commands", commands)
+        self.assertEqual(out.count("refused, nothing is changed: arcs.csv: this would take the place of a table"), 4)
+        self.assertEqual((Path(self.nodes).read_text(), Path(self.arcs).read_text()), (NODES, ARCS))
+        texts = self.file("nodes.txt", NODES), self.file("arcs.txt", ARCS)
+        self.assertIn("take the place", self.run_it("convert", *texts, "-o", texts[1], status=3)[1])
+        problem = self.file("same.min", "p min 2 1\na 1 2 0 9 1\n")
+        self.assertEqual(self.run_it("convert", problem, "-o", problem), ("", ""))
+
     def test_sweep_over_values_below_0(self):
         """Those of a demand; argparse alone takes a list of them for an option."""
         asked = ("sweep", self.nodes, self.arcs, "--supply", "Ulm", "--beside", "Kiel", "--values")
@@ -304,10 +381,29 @@ class Command(unittest.TestCase):
             (("--cap", "nowhere", "--values", "1"), 3),
             (("--cap", "road", "--cost", "road", "--values", "1"), 2),
             (("--supply", "Rom", "--values", "1"), 3),
+            (("--supply", "Kiel", "--beside", "Kiel", "--values", "6"), 3),
             (("--cap", "road", "--values", "1", "--table", "sweep.txt"), 3),
         ):
             with self.subTest(words):
                 self.run_it("sweep", self.nodes, self.arcs, *words, status=status)
+
+    def test_commands_of_other_encodings(self):
+        """The mark of UTF-8 is none of the first command, and what is no UTF-8 is refused on its line alone."""
+        commands = Path(self.folder.name) / "commands"
+        commands.write_bytes(b"\xef\xbb\xbfcap road 1\r\ncap stra\xdfe 1\r\nundo\r\n")
+        out, errors = self.run_it("what-if", self.nodes, self.arcs, "--commands", str(commands))
+        self.assertEqual(errors, TAKEN)
+        self.assertEqual(
+            out.splitlines()[1:],
+            [
+                "what if> cap road 1",
+                "cost 14.25 (2.75 more)",
+                "what if> cap stra\\xdfe 1",
+                "refused, nothing is changed: there is no arc stra\\xdfe",
+                "what if> undo",
+                "cost 11.5 (2.75 less)",
+            ],
+        )
 
     def test_sweep_over_a_value_that_is_refused(self):
         """Nothing is printed then, and the status is not that of no plan."""

@@ -6,7 +6,7 @@ from decimal import Decimal
 from fractions import Fraction
 
 from mcf_plan import Meaningless, Plan, Problem, Refused
-from mcf_plan.problem import exact, plain
+from mcf_plan.problem import capacity, exact, plain
 
 
 class Numbers(unittest.TestCase):
@@ -38,6 +38,11 @@ class Numbers(unittest.TestCase):
             self.skipTest("numpy is not installed")
         self.assertEqual(exact(numpy.int64(5)), 5)
         self.assertEqual(exact(numpy.float64(0.1)), Decimal("0.1"))
+        for infinite in (numpy.float16("inf"), numpy.float32("inf"), numpy.longdouble("inf")):
+            self.assertIsNone(capacity(infinite))
+        for given in (numpy.array(1.5), numpy.array([1.5]), numpy.float32("-inf")):
+            with self.subTest(given), self.assertRaisesRegex(ValueError, "the capacity is .*, and has to be a"):
+                capacity(given)
         self.assertEqual(exact(numpy.float32(0.1)), Decimal("0.1"))
 
 

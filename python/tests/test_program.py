@@ -78,6 +78,18 @@ class Solving(unittest.TestCase):
                     call(DIAMOND, time_limit=0.2)
                 self.assertLess(time.monotonic() - start, 0.2 + HEARD)
 
+    def test_time_limits_that_are_none(self):
+        problem = Problem.from_dimacs(DIAMOND)
+        for limit in (float("inf"), 1e12, 10**30):
+            with self.subTest(limit):
+                self.assertEqual(problem.solve(time_limit=limit).cost, problem.solve().cost)
+                self.assertEqual(Program().check(DIAMOND, Program().solve(DIAMOND, time_limit=limit)), "valid")
+                with Session(problem, time_limit=limit) as session:
+                    self.assertEqual(session.set_cap(0, 2), session.cost)
+        for call in (problem.solve, lambda time_limit: Program().solve(DIAMOND, time_limit=time_limit)):
+            with self.assertRaisesRegex(ValueError, "the time limit is nan"):
+                call(time_limit=float("nan"))
+
     def test_time_limit_as_given(self):
         """Whatever part of the work was too slow, the words tell the limit of the whole."""
         problem = Problem.from_dimacs(DIAMOND)

@@ -14,6 +14,7 @@ not wanted, and results are lists.
 from __future__ import annotations
 
 from array import array
+from collections.abc import Mapping, Set
 from dataclasses import dataclass, field
 from operator import gt, index, mul
 from typing import Any, Callable, List, Optional, Sequence, Union
@@ -289,7 +290,9 @@ def _converted(column: Column, what: str, convert: Callable[[Any], Any]) -> List
 
 
 def _listed(column: Column) -> List[Any]:
-    """A list of the entries of a column."""
+    """A list of the entries of a column. Raises ValueError where it has no order, or more than one dimension."""
+    if isinstance(column, (Mapping, Set)):
+        raise ValueError(f"a column is a list or an array, and this one is of type {type(column).__name__}")
     if hasattr(column, "tolist"):
         entries = column.tolist()
         if not isinstance(entries, list) or entries and isinstance(entries[0], list):

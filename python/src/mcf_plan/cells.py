@@ -29,6 +29,12 @@ class NoValue(NamedTuple):
     formula: str
 
 
+class Merged(NamedTuple):
+    """A cell of a spreadsheet that is merged with others and is not the first of them, which has what all show."""
+
+    area: str
+
+
 ERROR = re.compile(r"#(N/?[AVD]|\S*[!?])|#{2,}|Err:\d+|#¿.*\?")
 """Errors of spreadsheets in the languages that they are written in: #N/A, #NV, #REF!, #¡VALOR!, #NAME?, Err:502."""
 
@@ -64,9 +70,11 @@ def shown(cell: Any) -> str:
     """A cell as messages show it."""
     if isinstance(cell, NoValue):
         return repr("=" + cell.formula if cell.formula else "=")
+    if isinstance(cell, Merged):
+        return f"a part of {cell.area}"
     if is_truth(cell):
         return "TRUE" if cell else "FALSE"
-    if isinstance(cell, datetime.date):
+    if isinstance(cell, (datetime.date, datetime.time)):
         return repr(cell.isoformat().replace("T00:00:00", ""))
     text = repr(cell)
     return text if len(text) <= 60 else text[:57] + "..."
@@ -76,6 +84,8 @@ def not_plain(cell: Any) -> Optional[str]:
     """What is wrong with a cell that is neither a number nor a name; None where it may be one of them."""
     if isinstance(cell, NoValue):
         return "a formula without a kept value: open the workbook in a spreadsheet program and save it"
+    if isinstance(cell, Merged):
+        return "one of several cells that are merged: part them, and write in each what counts there"
     if is_truth(cell):
         return "a truth value, which is no number and no name"
     if isinstance(cell, str) and ERROR.fullmatch(cell.strip()):
@@ -101,7 +111,7 @@ def name_of(cell: Any) -> str:
         raise CellFault(f"a name was expected, and this is {wrong}")
     if is_empty(cell):
         return ""
-    if isinstance(cell, float) and cell.is_integer():
+    if _is_whole(cell):
         cell = int(cell)
     if isinstance(cell, datetime.datetime) and cell.time() == datetime.time():
         cell = cell.date()
@@ -112,6 +122,13 @@ def name_of(cell: Any) -> str:
     if hidden:
         raise CellFault(f"a name was expected, and this one has a character that can't be seen, U+{ord(hidden[0]):04X}")
     return text
+
+
+def _is_whole(cell: Any) -> bool:
+    """Whether a cell is a whole number that may be written with a point."""
+    if isinstance(cell, Decimal):
+        return cell.is_finite() and cell.adjusted() <= 60 and cell == cell.to_integral_value()
+    return isinstance(cell, float) and cell.is_integer()
 
 
 # ---------------------------------------------------------------- numbers
@@ -150,9 +167,9 @@ def _decimal_mark(cell: str) -> Optional[str]:
     last = marks[-1]
     other = "," if last == "." else "."
     if len(set(marks)) == 2:
-        return last if re.fullmatch(rf"\d{{1,3}}(\{other}\d{{3}})+\{last}\d*", body) else ""
+        return last if re.fullmatch(rf"[1-9]\d{{0,2}}(\{other}\d{{3}})+\{last}\d*", body) else ""
     if len(marks) > 1:
-        return other if re.fullmatch(rf"\d{{1,3}}(\{last}\d{{3}})+", body) else ""
+        return other if re.fullmatch(rf"[1-9]\d{{0,2}}(\{last}\d{{3}})+", body) else ""
     before, behind = body.split(last)
     if len(behind) == 3 and 1 <= len(before) <= 3 and before[0] != "0" and not found[3]:
         return None
@@ -227,7 +244,7 @@ class Numbers(Dict[Any, Optional[Decimal]]):
         found = _WELL_FORMED.fullmatch(cell)
         text = cell
         if found and thousands in cell:
-            if not re.fullmatch(rf"[+-]?\d{{1,3}}(\{thousands}\d{{3}})+(\{mark}\d*)?", cell, re.ASCII):
+            if not re.fullmatch(rf"[+-]?[1-9]\d{{0,2}}(\{thousands}\d{{3}})+(\{mark}\d*)?", cell, re.ASCII):
                 raise CellFault(f"a number was expected, and decimals are parted by {shown(mark)} here")
             text = cell.replace(thousands, "")
         try:
@@ -255,7 +272,7 @@ class Coordinates(Numbers):
 def number_hint(cell: str) -> str:
     """What to do about a cell that is no number, for the commonest mistakes."""
     lower = cell.lower()
-    if _WELL_FORMED.fullmatch(cell) and re.search("[eE]", cell):
+    if _WELL_FORMED.fullmatch(cell) and (re.search("[eE]", cell) or sum(map(str.isdigit, cell)) > 60):
         return ", of at most 60 digits"
     if ERROR.fullmatch(cell):
         return ", and this is an error of the spreadsheet"

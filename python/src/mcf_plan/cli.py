@@ -3,6 +3,7 @@
 from __future__ import annotations
 
 import argparse
+import os
 import re
 import sys
 import tempfile
@@ -10,11 +11,11 @@ from contextlib import ExitStack
 from decimal import Decimal
 from io import StringIO
 from pathlib import Path
-from typing import Callable, Dict, Iterable, List, NoReturn, Optional, Tuple
+from typing import Callable, Dict, Iterable, List, NoReturn, Optional, TextIO, Tuple
 
 from . import __version__
 from .conversation import Conversation
-from .deadline import alarm, lift_alarm
+from .deadline import MOST_SECONDS, alarm, lift_alarm
 from .dimacs import Fault, find_answer_fault, find_fault, parse_problem
 from .explain import explain
 from .formats import as_str
@@ -31,11 +32,9 @@ from .rounding import MOST_DECIMALS, round_problem
 from .session import EditRefused, Session
 from .sheets import is_table
 from .signals import Terminated, die_of, hearing
-from .tables import COLUMNS, TableFault, check_output, read_tables, write_plan
+from .tables import COLUMNS, TableFault, check_kept, check_output, read_tables, write_plan
 
 NO_PLAN, USAGE, REFUSED, FAILED, UNBOUNDED, BEYOND, DISAGREE, TOO_LONG, INTERRUPTED = 1, 2, 3, 4, 6, 7, 8, 124, 130
-MOST_SECONDS = 100_000_000
-"""A time limit is below this, some three years: the system's clock takes no greater ones."""
 MOST_PORT = 65_535
 
 STATUSES = """status:
@@ -53,6 +52,8 @@ STATUSES = """status:
 
 def main(arguments: Optional[List[str]] = None) -> int:
     """Runs the command and returns its status. A signal that asks the process to end does so."""
+    if not _streams_are_open():
+        return _say("the output is closed", FAILED)
     options = _parser().parse_args(joined_values(sys.argv[1:] if arguments is None else arguments))
     try:
         with hearing():
@@ -60,6 +61,15 @@ def main(arguments: Optional[List[str]] = None) -> int:
     except Terminated as ended:
         die_of(ended.number)
         return 128 + ended.number
+
+
+def _streams_are_open() -> bool:
+    """Whether what is printed goes anywhere. An input that is closed, for which Python has None, is as good as an empty
+    one, and notes may go nowhere."""
+    for name, mode in (("stdin", "r"), ("stderr", "w")):
+        if getattr(sys, name) is None:
+            setattr(sys, name, open(os.devnull, mode, encoding="utf-8"))
+    return getattr(sys, "stdout") is not None
 
 
 def _run(options: argparse.Namespace) -> int:
@@ -347,6 +357,15 @@ def _read_source(options: argparse.Namespace) -> Problem:
         raise TableFault(f"{len(tables)} tables are given, and there are two: that of nodes, then that of arcs")
     if len(tables) == 1 and not is_table(tables[0]):
         problem = _read_problem_text(tables[0])
+        for what, said, own in (
+            ("kind", options.kind, problem.kind),
+            ("source", options.source, problem.source),
+            ("sink", options.sink, problem.sink),
+        ):
+            if said not in (None, "min", own):
+                raise TableFault(
+                    f"{tables[0]}: --{what} {said} is said, and the {what} of this text is {own or 'none'}"
+                )
         problem.balance = options.balance
         return problem if options.round is None else round_problem(problem, options.round)
     for what, name in (("--source", options.source), ("--sink", options.sink)):
@@ -503,6 +522,8 @@ def _tell_fault(fault: Fault, name: str, raw: bytes) -> None:
 
 
 def _convert(options: argparse.Namespace) -> int:
+    if options.output:
+        check_kept(options.output, options.tables)
     problem = _read_source(options)
     _tell_notes(problem.notes)
     rewriting = rewrite(problem, Options(options.surplus))
@@ -528,10 +549,15 @@ def _board(options: argparse.Namespace) -> int:
 
 def _what_if(options: argparse.Namespace) -> int:
     with ExitStack() as stack:
-        source = stack.enter_context(open(options.commands, encoding="utf-8")) if options.commands else sys.stdin
+        source = stack.enter_context(_commands(options.commands)) if options.commands else sys.stdin
         session = stack.enter_context(_opened(options))
-        Conversation(session, sys.stdout, source.isatty()).run(source)
+        Conversation(session, sys.stdout, source.isatty(), options.tables).run(source)
     return 0
+
+
+def _commands(name: str) -> TextIO:
+    """The file of commands. A name in it that is no UTF-8 is refused on its line."""
+    return open(name, encoding="utf-8-sig", errors="surrogateescape")
 
 
 def _opened(options: argparse.Namespace) -> Session:

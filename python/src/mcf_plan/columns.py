@@ -11,7 +11,7 @@ import unicodedata
 from dataclasses import dataclass, field
 from typing import Collection, Dict, List, Mapping, NamedTuple, Optional, Sequence, Tuple
 
-from .cells import TableFault, is_empty
+from .cells import Merged, TableFault, is_empty
 from .measures import Unit, unit_of
 from .sheets import Sheet
 from .vocabulary import (
@@ -146,6 +146,13 @@ def _told(sheet: Sheet, kinds: Sequence[str], chosen: Mapping[str, Sequence[str]
         for name in names:
             places = [place for place, header in enumerate(sheet.header) if header.strip() == name.strip()]
             places = places or [place for place, header in enumerate(sheet.header) if folded(header) == folded(name)]
+            for place in places:
+                other = told.get(place, "aside")
+                if what != "aside" != other and what != other:
+                    raise TableFault(
+                        f"{sheet.name}: the column {sheet.header[place]!r} is said to be {called(other)} and "
+                        f"{called(what)}; give the table with a column for each"
+                    )
             if not places and what != "aside":
                 raise TableFault(f"{sheet.name}: there is no column {name!r}; its columns are {sheet.its_columns()}")
             told.update(dict.fromkeys(places, what))
@@ -237,7 +244,8 @@ def _is_left_aside(sheet: Sheet, place: int, kinds: Sequence[str], taken: Collec
     """Whether a column that matches nothing is to be told as left aside; False where it is empty. Raises TableFault
     where it looks like one that matters."""
     header = sheet.header[place]
-    cells = {cell for cell in map(str, sheet.columns[place]) if not is_empty(cell)} - {"nan", "None", "<NA>", "NaT"}
+    held = (str(cell) for cell in sheet.columns[place] if not isinstance(cell, Merged))
+    cells = {cell for cell in held if not is_empty(cell)} - {"nan", "None", "<NA>", "NaT"}
     name = folded(header)
     if not name or name in HARMLESS:
         return bool(cells)

@@ -4,10 +4,11 @@ from __future__ import annotations
 
 import difflib
 import shlex
+import unicodedata
 from contextlib import ExitStack, suppress
 from decimal import Decimal
 from pathlib import Path
-from typing import Callable, Dict, List, Optional, TextIO
+from typing import Callable, Dict, List, Optional, Sequence, TextIO
 
 from .explain import MOST_TOLD
 from .plan import Infeasible
@@ -17,7 +18,7 @@ from .program import TimeLimit
 from .questions import arc_of
 from .rewrite import CannotRewrite
 from .session import EditRefused, Session
-from .tables import write_plan
+from .tables import check_kept, write_plan
 
 HELP = """cap ARC VALUE        set a capacity (inf: no limit)      show           the plan, or why there is none
 low ARC VALUE        set a lower bound                   why            why there is no plan
@@ -50,11 +51,12 @@ WANTED = {
 
 
 def words_of(line: str) -> List[str]:
-    """The words of a line; none of a remark. Raises EditRefused where a quotation mark is not closed."""
+    """The words of a line, their letters as tables have them; none of a remark. Raises EditRefused where a quotation
+    mark is not closed."""
     if line.lstrip().startswith("#"):
         return []
     try:
-        return shlex.split(line)
+        return shlex.split(unicodedata.normalize("NFC", line))
     except ValueError:
         raise EditRefused("a quotation mark or a backslash stands alone; names with blanks stand in quotes") from None
 
@@ -74,12 +76,14 @@ def number(text: str) -> str:
 
 
 class Conversation:
-    """A what-if session in words: `session` answers, `out` takes what is said."""
+    """A what-if session in words: `session` answers, `out` takes what is said. No file takes the place of one of the
+    tables `inputs`."""
 
-    def __init__(self, session: Session, out: TextIO, is_terminal: bool = False):
+    def __init__(self, session: Session, out: TextIO, is_terminal: bool = False, inputs: Sequence[str] = ()):
         self.session = session
         self.out = out
         self.is_terminal = is_terminal
+        self.inputs = inputs
         self.marked: Dict[str, str] = {}
         self.group: Optional[ExitStack] = None
         self.before: Optional[Decimal] = None  # the cost where the group began
@@ -323,6 +327,7 @@ class Conversation:
 
     def write(self, name: str, text: Callable[[], str]) -> None:
         """Writes a text to a file."""
+        check_kept(name, self.inputs)
         Path(name).write_text(text(), encoding="utf-8")
         self.say(f"written to {name}")
 
@@ -330,11 +335,13 @@ class Conversation:
         """Writes the report to a file."""
         from .report import html_report
 
+        check_kept(name, self.inputs)
         html_report(self.session.plan(check=True), name)
         self.say(f"written to {name}")
 
     def table(self, name: str) -> None:
         """Writes the plan as a table to a file, where there is one."""
+        check_kept(name, self.inputs)
         result = self.session.plan(check=True)
         if isinstance(result, Infeasible):
             return self.say("there is no plan to write")

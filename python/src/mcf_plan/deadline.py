@@ -10,6 +10,10 @@ from types import FrameType
 from typing import Iterator, Optional, Type
 
 
+MOST_SECONDS = 100_000_000
+"""Time limits are below this, some three years: the system's clock takes no greater ones."""
+
+
 class TimeLimit(Exception):
     """The time limit passed before the answer was there. `seconds` is the limit as it was given."""
 
@@ -19,7 +23,8 @@ class TimeLimit(Exception):
 
 
 class Deadline:
-    """The moment up to which an answer has to be there: `seconds` from now on; None is no limit.
+    """The moment up to which an answer has to be there: `seconds` from now on; None, infinity and what is as good as
+    that is no limit. Raises ValueError where it is nan.
 
     In its `with` block each part of the work gets what is left. A part that takes longer raises TimeLimit, which tells
     what was given for the whole.
@@ -30,8 +35,10 @@ class Deadline:
     """
 
     def __init__(self, seconds: Optional[float]):
+        if seconds is not None and seconds != seconds:
+            raise ValueError("the time limit is nan, and has to be a number of seconds")
         self.seconds = seconds
-        self._end = None if seconds is None else time.monotonic() + seconds
+        self._end = None if seconds is None or seconds >= MOST_SECONDS else time.monotonic() + seconds
 
     def left(self) -> Optional[float]:
         """The seconds that are left; None is no limit. Raises TimeLimit where none is left."""

@@ -7,7 +7,7 @@ from decimal import Decimal
 from pathlib import Path
 from typing import Any, Dict, List, NamedTuple, Optional, Sequence, Tuple
 
-from .cells import TableFault
+from .cells import CellFault, TableFault, name_of
 from .columns import folded, match_of
 from .sheets import Sheet
 
@@ -35,13 +35,16 @@ def read_map(path: Path) -> Tuple[Optional[Sheet], Optional[Sheet]]:
     others: Dict[str, int] = {}
     for number, feature in enumerate(features, 1):
         place = f"{path.name}, feature {number}"
-        geometry = (feature.get("geometry") if isinstance(feature, dict) else None) or {}
+        said = feature if isinstance(feature, dict) else {}
+        geometry, properties = said.get("geometry") or {}, said.get("properties") or {}
+        if not isinstance(geometry, dict) or not isinstance(properties, dict):
+            raise TableFault(f"{place}: its geometry and its properties have to be objects, or null")
         kind = geometry.get("type")
         if kind not in ("Point", "LineString"):
             others[str(kind)] = others.get(str(kind), 0) + 1
             continue
         ends = _positions(place, kind, geometry.get("coordinates"))
-        properties = dict(feature.get("properties") or {})
+        properties = dict(properties)
         if "id" in feature and not any(match_of(name, ["node", "name"]) for name in properties):
             properties["id"] = feature["id"]
         (points if kind == "Point" else lines).append(_Feature(number, properties, ends[0], ends[-1]))
@@ -62,10 +65,12 @@ def read_map(path: Path) -> Tuple[Optional[Sheet], Optional[Sheet]]:
 def _features(path: Path) -> List[Any]:
     """The features of the file. Raises TableFault where it is no FeatureCollection."""
     try:
-        told = json.loads(path.read_bytes().decode("utf-8-sig"), parse_float=Decimal)
+        told = json.loads(path.read_bytes().decode("utf-8-sig"), parse_float=Decimal, object_pairs_hook=_object)
     except UnicodeDecodeError:
         raise TableFault(f"{path.name}: this is no UTF-8, as GeoJSON has to be") from None
-    except (json.JSONDecodeError, RecursionError) as error:
+    except _Twice as twice:
+        raise TableFault(f"{path.name}: an object has {str(twice)!r} twice, and one of them would be lost") from None
+    except (ValueError, RecursionError) as error:
         raise TableFault(f"{path.name}: this is no JSON: {error}") from None
     if (
         not isinstance(told, dict)
@@ -77,12 +82,25 @@ def _features(path: Path) -> List[Any]:
     return features
 
 
+class _Twice(Exception):
+    """An object has a key twice; the message is the key."""
+
+
+def _object(pairs: List[Tuple[str, Any]]) -> Dict[str, Any]:
+    """An object of the file. Raises _Twice where two of its values have one key."""
+    found = dict(pairs)
+    if len(found) < len(pairs):
+        keys = [key for key, _ in pairs]
+        raise _Twice(next(key for key in keys if keys.count(key) > 1))
+    return found
+
+
 def _positions(place: str, kind: str, coordinates: Any) -> List[Point]:
     """The positions of a point or a line. Raises TableFault where they are none."""
     positions = [coordinates] if kind == "Point" else coordinates
     try:
         found = [tuple(float(number) for number in position[:2]) for position in positions]
-    except (TypeError, ValueError):
+    except (TypeError, ValueError, OverflowError):
         found = []
     if len(found) < (1 if kind == "Point" else 2) or any(len(position) != 2 for position in found):
         raise TableFault(f"{place}: its coordinates are not those of a {kind}")
@@ -167,4 +185,12 @@ def _name(point: _Feature) -> Optional[str]:
     """The name of a point, by the first of its properties that is one."""
     found = [(key, value) for key, value in point.properties.items() if match_of(key, ["node"]) and value is not None]
     found.sort(key=lambda pair: folded(pair[0]) not in ("name", "nom", "nombre"))
-    return str(found[0][1]) if found else None
+    return _written(found[0][1]) if found else None
+
+
+def _written(value: Any) -> str:
+    """A name as the table of points will have it; a value that is none is refused there."""
+    try:
+        return name_of(value)
+    except CellFault:
+        return str(value)

@@ -7,6 +7,7 @@ import re
 from decimal import Context, Decimal, InvalidOperation
 from fractions import Fraction
 from functools import lru_cache
+from numbers import Real
 from typing import TYPE_CHECKING, Any, Callable, Dict, Iterable, List, NamedTuple, Optional, Tuple, Union
 
 from .dimacs import ProblemReader, read_with
@@ -62,7 +63,7 @@ def exact(value: Number, what: str = "the number") -> Decimal:
         return _of_text(value) if type(value) is str else _in_range(_of_number(value))
     except _OutOfRange as reason:
         raise ValueError(f"{what} is {value!r}, {reason}") from None
-    except (InvalidOperation, ValueError):
+    except (InvalidOperation, ValueError, TypeError):
         raise ValueError(f"{what} is {value!r}, and has to be a decimal number") from None
 
 
@@ -116,7 +117,7 @@ def _decimal_of(fraction: Fraction) -> Decimal:
 
 def capacity(value: Optional[Number], what: str = "the capacity") -> Optional[Decimal]:
     """The exact decimal of a capacity; None where it is None or infinite, which is no limit."""
-    if value is None or (isinstance(value, float) and value == float("inf")):
+    if value is None or (isinstance(value, (float, Real)) and value == float("inf")):
         return None
     if isinstance(value, Decimal) and value.is_infinite() and value > 0:
         return None

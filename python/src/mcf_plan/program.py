@@ -146,9 +146,10 @@ class Program:
             raise ProgramFailed(f"{self.path} could not be run: {error.strerror}") from error
 
     def _run(self, words: List[str], text: bytes, time_limit: Optional[float]) -> subprocess.CompletedProcess[bytes]:
+        left = Deadline(time_limit).left()
         with self.start(words) as process:
             try:
-                output, errors = process.communicate(text, timeout=time_limit)
+                output, errors = process.communicate(text, timeout=left)
             except subprocess.TimeoutExpired:
                 process.kill()
                 assert time_limit is not None

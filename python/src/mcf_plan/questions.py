@@ -7,11 +7,13 @@ import json
 import re
 import shlex
 import sys
+import unicodedata
 from decimal import Decimal
 from pathlib import Path
 from typing import Any, Dict, List, Optional, Tuple
 
 from .deadline import lift_alarm
+from .formats import counted
 from .plan import Infeasible, Plan
 from .printing import print_table, say
 from .problem import WIDE, Problem, exact, plain
@@ -20,7 +22,7 @@ from .report import json_text, to_json
 from .sensitivity import Ranges, SupplyPrice, ranges, supply_prices
 from .session import Session
 from .sweep import Point, What, points, row_of_values
-from .tables import check_output, write_table
+from .tables import check_kept, check_output, write_table
 
 OF_ARC = {"cap": "capacity", "low": "lower bound", "cost": "cost"}
 
@@ -36,13 +38,17 @@ def arc_of(problem: Problem, words: str) -> int:
     >>> [arc_of(problem, words) for words in ("B 10", "Bad Aibling to Ulm", "'Bad Aibling' Ulm", "#1")]
     [0, 0, 0, 0]
     """
+    words = unicodedata.normalize("NFC", words)  # as the names of tables
     try:
         try:
             return problem.find_arc(words)
         except KeyError:
-            parts = shlex.split(words)
+            parts = _parts_of(words)
             if len(parts) == 1 and parts[0].startswith("#") and parts[0][1:].isdecimal():
-                return problem.find_arc(int(parts[0][1:]) - 1)
+                number = int(parts[0][1:])
+                if not 1 <= number <= len(problem.arcs):
+                    raise KeyError(f"there is no arc {parts[0]} among {counted(len(problem.arcs), 'arc')}") from None
+                return number - 1
             if len(parts) == 3 and parts[1] == "to":
                 del parts[1]
             if len(parts) == 2:
@@ -55,8 +61,17 @@ def arc_of(problem: Problem, words: str) -> int:
         raise ValueError(f"{error.args[0]}{quoted}") from None
 
 
+def _parts_of(words: str) -> List[str]:
+    """The words by which an arc is named. Raises ValueError where a quotation mark is not closed."""
+    try:
+        return shlex.split(words)
+    except ValueError:
+        raise ValueError(f"a quotation mark or a backslash stands alone in {words}") from None
+
+
 def node_of(problem: Problem, name: str) -> str:
     """The node of a name. Raises ValueError where there is none."""
+    name = unicodedata.normalize("NFC", name)
     if name not in problem.nodes:
         raise ValueError(f"there is no node {name}")
     return name
@@ -279,7 +294,9 @@ def asked_number(options: argparse.Namespace, problem: Problem) -> Tuple[What, s
 def run_sweep(options: argparse.Namespace, problem: Problem) -> bool:
     """Runs `sweep`; whether any of the values has a plan."""
     if options.table:
-        check_output(options.table)
+        check_output(options.table, options.tables)
+    if options.chart:
+        check_kept(options.chart, options.tables)
     values = asked_values(options)
     what, words, now = asked_number(options, problem)
     with Session(problem, surplus=options.surplus) as session, Progress() as progress:

@@ -8,7 +8,7 @@ from dataclasses import dataclass, field
 from pathlib import Path
 from typing import Any, Dict, FrozenSet, List, Optional, Sequence, Tuple
 
-from .cells import TableFault, is_empty, shown
+from .cells import TableFault, is_empty, not_plain, shown
 
 DELIMITERS = ",;\t|"
 WORKBOOKS = (".xlsx", ".xlsm")
@@ -58,6 +58,13 @@ def sheet_of_rows(
     """The sheet of rows of cells, none of them empty, of which the first names the columns."""
     if not rows:
         raise TableFault(f"{name}: the table is empty: a row with the names of the columns comes first")
+    for cell in rows[0]:
+        wrong = not_plain(cell)
+        if wrong:
+            raise TableFault(
+                f"{name}, {word} {lines[0]}: {shown(cell)} stands there; the name of a column was expected, and this is "
+                f"{wrong}"
+            )
     header = ["" if is_empty(cell) else str(cell).strip() for cell in rows[0]]
     while header and not header[-1]:
         header.pop()
@@ -160,6 +167,8 @@ def _decoded(raw: bytes, name: str, encoding: Optional[str]) -> str:
         raise TableFault(f"{name}: this is a spreadsheet by another name; give it its ending .xlsx")
     if raw[:2] in (b"\xff\xfe", b"\xfe\xff"):
         encoding = "utf-16"
+    elif raw[:3] == b"\xef\xbb\xbf":
+        encoding = None  # It is UTF-8, whatever the other table is.
     try:
         text = raw.decode(encoding or "utf-8-sig")
     except LookupError:
@@ -212,7 +221,7 @@ def sheet_of_frame(frame: Any, name: str) -> Sheet:
     if not hasattr(frame, "columns") or not hasattr(frame, "iloc"):
         raise TypeError(f"{name} has to be a DataFrame of pandas, and is of type {type(frame).__name__}")
     header = [str(column).strip() for column in frame.columns]
-    columns: List[Sequence[Any]] = [frame.iloc[:, place].tolist() for place in range(len(header))]
+    columns: List[Sequence[Any]] = [_cells_of(frame.iloc[:, place]) for place in range(len(header))]
     lines = frame.index.tolist()
     kept = [number for number, row in enumerate(zip(*columns)) if any(not is_empty(cell) for cell in row)]
     if len(kept) != len(lines):
@@ -230,6 +239,16 @@ def sheet_of_frame(frame: Any, name: str) -> Sheet:
     elif any(isinstance(line, str) for line in lines):
         sheet.index, sheet.index_name = lines, "the index"
     return sheet
+
+
+def _cells_of(column: Any) -> List[Any]:
+    """The cells of a column of a frame. Short floats are taken as they are printed, as all others are: in 64 bits 0.1
+    would become 0.10000000149011612."""
+    dtype = column.dtype
+    if getattr(dtype, "kind", "") == "f" and dtype.itemsize < 8:
+        return [cell if is_empty(cell) else float(str(cell)) for cell in column.array]
+    cells: List[Any] = column.tolist()
+    return cells
 
 
 def _row_label(label: Any) -> str:

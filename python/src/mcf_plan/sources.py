@@ -85,6 +85,16 @@ def _both_of_workbook(path: Path) -> Tuple[Optional[Sheet], Sheet]:
     return sheets
 
 
+def sheets_read(path: Path, name: Optional[str]) -> Sequence[str]:
+    """The names of the sheets of a workbook that are read where it is named, alone or with one of its sheets."""
+    from .workbook import sheet_names
+
+    if name is not None:
+        return [name]
+    there = sheet_names(path)
+    return there if len(there) == 1 else [each for each in there if folded(each) in (*NODE_SHEETS, *ARC_SHEETS)]
+
+
 def _which_sheet(path: Path, there: Sequence[str]) -> str:
     if not there:
         return f"{path.name}: all its sheets are empty"

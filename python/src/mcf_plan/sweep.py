@@ -80,6 +80,8 @@ def set_number(session: Session, what: What, value: Decimal) -> Optional[Decimal
         for name in (node, other):
             if name not in nodes:
                 raise KeyError(f"there is no node {name}")
+        if node == other:
+            raise ValueError(f"the supply of {node} can't change the other way at {node} itself: name another node")
         left = WIDE.subtract(nodes[other], WIDE.subtract(value, nodes[node]))
         with session.group():
             session.set_supply(node, value)

@@ -20,8 +20,8 @@ from .formats import counted
 from .problem import ONE, WIDE, ZERO, Arc, Number, Problem, exact, plain
 from .reading import Reading, Table, no_column
 from .rounding import round_problem
-from .sheets import WORKBOOKS, Sheet, part_sheet
-from .sources import Source, find_sheets
+from .sheets import WORKBOOKS, Sheet, is_table, part_sheet
+from .sources import Source, find_sheets, sheets_read
 from .vocabulary import ARC_COLUMNS, COLUMNS, DEMANDING, NODE_COLUMNS, SUMS
 
 if TYPE_CHECKING:
@@ -59,7 +59,9 @@ def read_tables(
     Raises TableFault where a table is not understood, OSError where a file can't be read.
     """
     reading = Reading.of(columns, decimal, default_cost, encoding)
-    problem = Problem(kind, balance=balance, source=source, sink=sink)
+    # As the cells of tables, so that the node 1 of a frame is found, and one whose letters are made of other characters.
+    ends_of_flow = [None if name is None else name_of(name) for name in (source, sink)]
+    problem = Problem(kind, balance=balance, source=ends_of_flow[0], sink=ends_of_flow[1])
     node_sheet, arc_sheet = find_sheets(nodes, arcs, reading.encoding)
     _check_order(node_sheet, arc_sheet)
     _check_chosen(reading, node_sheet, arc_sheet)
@@ -351,14 +353,27 @@ def plan_rows(plan: Plan) -> List[Tuple[str, ...]]:
     return rows
 
 
-def check_output(path: Union[str, Path], inputs: Iterable[str] = ()) -> None:
+def check_kept(path: Union[str, Path], inputs: Sequence[str]) -> None:
+    """Raises TableFault where what is written would take the place of one of the tables `inputs`, or of a sheet that is
+    read; one alone may be a problem text, which a newer one may replace."""
+    file, sheet = part_sheet(path)
+    for each in inputs if len(inputs) != 1 or is_table(inputs[0]) else ():
+        theirs, their_sheet = part_sheet(each)
+        if not (file.exists() and theirs.exists() and file.samefile(theirs)):
+            continue
+        if sheet is None:
+            raise TableFault(f"{file.name}: this would take the place of a table that is read; write to another file")
+        if sheet.casefold() in map(str.casefold, sheets_read(theirs, their_sheet)):
+            raise TableFault(
+                f"{file.name}: the sheet {sheet!r} is read, and this would take its place; take another name"
+            )
+
+
+def check_output(path: Union[str, Path], inputs: Sequence[str] = ()) -> None:
     """Raises TableFault where a plan can't be written as a table of this name: its ending is unknown, or it is a
     workbook with other sheets, which would be lost, or one of the files `inputs`."""
+    check_kept(path, inputs)
     file, sheet = part_sheet(path)
-    if sheet is None and file.exists() and any(each != "-" and file.samefile(part_sheet(each)[0]) for each in inputs):
-        raise TableFault(
-            f"{file.name}: the plan would take the place of a table that is read; write it to another file"
-        )
     ending = file.suffix.lower()
     if ending not in (".csv", ".tsv", *WORKBOOKS):
         raise TableFault(f"{file.name}: a table is written as .csv, .tsv or .xlsx, or as a sheet by book.xlsx:SHEET")

@@ -11,13 +11,14 @@ import datetime
 import os
 import posixpath
 import re
+import shutil
 import zipfile
 from pathlib import Path
-from typing import Any, Dict, FrozenSet, Iterator, List, NamedTuple, Sequence, Set, Tuple
+from typing import Any, Dict, FrozenSet, Iterator, List, NamedTuple, Sequence, Set, Tuple, Union
 from xml.etree import ElementTree
 from xml.sax.saxutils import escape, quoteattr
 
-from .cells import NoValue, TableFault, is_empty
+from .cells import Merged, NoValue, TableFault, is_empty
 from .sheets import Sheet, sheet_of_rows
 
 WORKBOOK = "xl/workbook.xml"
@@ -31,6 +32,10 @@ DATE_FORMATS = frozenset((*range(14, 23), *range(27, 37), *range(45, 48), *range
 PERCENT_FORMATS = frozenset((9, 10))
 MOST_COLUMNS = 16_384
 DAY_0 = datetime.datetime(1899, 12, 30)
+DAY_0_OF_1904 = datetime.datetime(1904, 1, 1)
+"""The day from which workbooks count that began on old Macs."""
+MILLISECONDS = 86_400_000
+"""So many has a day."""
 HEAD = '<?xml version="1.0" encoding="UTF-8" standalone="yes"?>\n'
 
 
@@ -140,6 +145,8 @@ class _Reader:
         self.texts = [_text_of(each) for each in self._elements(parts.get("sharedStrings"), "si")]
         self.looks = self._looks(parts.get("styles"))
         self.struck_styles = self._struck_styles(parts.get("styles"))
+        of_1904 = any(each.get("date1904") in ("1", "true") for each in self._elements(WORKBOOK, "workbookPr"))
+        self.day_0 = DAY_0_OF_1904 if of_1904 else DAY_0
 
     def _elements(self, part: Any, name: str) -> Iterator[ElementTree.Element]:
         if part is not None and part in self.file.namelist():
@@ -182,6 +189,7 @@ class _Reader:
         """The rows of a sheet, filled up to the same width, and their numbers."""
         rows: List[Dict[int, Any]] = []
         lines: List[int] = []
+        merged: List[str] = []
         width = number = 0
         try:
             with self.file.open(part) as raw:
@@ -199,6 +207,9 @@ class _Reader:
                             rows.append(cells)
                             width = max(width, *cells)
                         element.clear()
+                    elif _local(element) == "mergeCell":
+                        merged.append(element.get("ref", ""))
+            _mark_merged(dict(zip(lines, rows)), merged)
         except (ElementTree.ParseError, KeyError, ValueError, IndexError, zipfile.BadZipFile) as error:
             raise TableFault(f"{self.path.name}: the part {part} can't be read: {error}") from None
         return [[cells.get(place, "") for place in range(width + 1)] for cells in rows], lines
@@ -238,7 +249,7 @@ class _Reader:
         style = int(cell.get("s", "0"))
         look = self.looks[style] if style < len(self.looks) else ""
         if look:
-            return _date(float(text)) if look == "date" else f"{float(text) * 100:g}%"
+            return _date(float(text), self.day_0) if look == "date" else f"{float(text) * 100:g}%"
         return int(text) if re.fullmatch(r"-?\d{1,15}", text) else float(text)
 
 
@@ -250,6 +261,27 @@ def _place(name: str) -> int:
             break
         place = place * 26 + ord(letter.upper()) - 64
     return place - 1
+
+
+def _mark_merged(rows: Dict[int, Dict[int, Any]], areas: Sequence[str]) -> None:
+    """Marks the cells of merged areas that would be read as empty: what the first one has is shown for all of them.
+
+    `rows` are the cells by the numbers of the rows, the names of the columns first. Cells beside the table, and areas
+    in which nothing stands, stay as they are.
+    """
+    heading, last = min(rows, default=0), max(rows, default=0)
+    for area in areas:
+        corners = re.fullmatch(r"([A-Z]+)(\d+):([A-Z]+)(\d+)", area)
+        if corners is None:
+            continue
+        left, top, right, bottom = _place(corners[1]), int(corners[2]), _place(corners[3]), int(corners[4])
+        if left not in rows.get(top, {}):
+            continue
+        places = [place for place in rows[heading] if left <= place <= right]
+        for number in range(max(top, heading + 1), min(bottom, last) + 1):
+            for place in places:
+                if number in rows and (number, place) != (top, left):
+                    rows[number][place] = Merged(area)
 
 
 def _text_of(element: ElementTree.Element) -> str:
@@ -264,18 +296,21 @@ def _unescaped(text: str) -> str:
 
 def _look_of(code: str) -> str:
     """What a format of numbers shows: 'date', 'percent', or '' for a plain number."""
-    bare = re.sub(r'"[^"]*"|\\.|\[[^\]]*\]|_.|\*.', "", code.split(";")[0])
+    bare = re.sub(r'"[^"]*"|\\.|\[(?!(h+|m+|s+)\])[^\]]*\]|_.|\*.', "", code.split(";")[0], flags=re.IGNORECASE)
     if "%" in bare:
         return "percent"
     return "date" if re.search(r"[dmyhs]", bare, re.IGNORECASE) and "general" not in bare.lower() else ""
 
 
-def _date(days: float) -> Any:
-    """The date of a number of days; the number where it is none."""
+def _date(days: float, day_0: datetime.datetime) -> Union[datetime.datetime, datetime.time, float]:
+    """The date of a number of days, or the time of less than one, to the millisecond, as spreadsheets show it; the
+    number where it is none."""
     try:
-        return DAY_0 + datetime.timedelta(days=days)
+        since = round(days * MILLISECONDS)
+        date = day_0 + datetime.timedelta(milliseconds=since)
     except OverflowError:
         return days
+    return date.time() if 0 <= since < MILLISECONDS else date
 
 
 # ---------------------------------------------------------------- writing
@@ -379,12 +414,16 @@ def _escaped(text: str) -> str:
 
 
 def _replace(path: Path, parts: Sequence[Tuple[str, bytes]]) -> None:
-    """Writes the parts as a file that takes the place of the one that is there when it is whole."""
+    """Writes the parts as a file that takes the place of the one that is there when it is whole, for whom that was
+    there; a link stays one."""
+    path = path.resolve()
     new = path.with_name(path.name + ".new")
     try:
         with zipfile.ZipFile(new, "w", zipfile.ZIP_DEFLATED) as file:
             for name, content in parts:
                 file.writestr(zipfile.ZipInfo(name), content, zipfile.ZIP_DEFLATED)
+        if path.exists():
+            shutil.copymode(path, new)
         os.replace(new, path)
     finally:
         new.unlink(missing_ok=True)

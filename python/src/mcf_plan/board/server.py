@@ -11,6 +11,7 @@ import csv
 import hmac
 import io
 import json
+import re
 import secrets
 import sys
 import threading
@@ -237,7 +238,7 @@ class Board:
             )
             return
         arc = edit.get("arc")
-        if not isinstance(arc, int) or not 0 <= arc < len(session.problem.arcs):
+        if type(arc) is not int or not 0 <= arc < len(session.problem.arcs):
             raise ValueError("there is no such arc")
         label = session.problem.arcs[arc].label
         if what == "cap":
@@ -518,7 +519,7 @@ class Handler(BaseHTTPRequestHandler):
             self._refuse(415, "a request is JSON")
             return
         length = self.headers.get("Content-Length", "")
-        if not length.isascii() or not length.isdigit() or int(length) > MOST_BYTES:
+        if not re.fullmatch("[0-9]{1,9}", length) or int(length) > MOST_BYTES:
             self._refuse(413, f"a request has a length, of at most {MOST_BYTES} bytes")
             return
         try:
