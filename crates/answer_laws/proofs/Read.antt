@@ -3,10 +3,10 @@ use Rattle.std.proofs.Common.{◌≡◌, ℕ, ◌+◌, ◌<◌, ◌^◌, Ok, ℤ
 use Rattle.std.specs.Prelude.{unsigned_abs}
 use Rattle.std.specs.Fmt.{decimal, signed_decimal}
 use Rattle.dimacs_lines.specs.Lines.{Line}
-use Rattle.dimacs_text.specs.declared.answer.FlowLine.{FlowLine}
-use Rattle.dimacs_text.specs.declared.answer.Answer.TheVariants.{Flow}
-use Rattle.dimacs_text.specs.Answer.{answers}
-use Rattle.dimacs_text.proofs.SaidLemmas.{said_of_nothing}
+use Rattle.answer_text.specs.declared.answer.FlowLine.{FlowLine}
+use Rattle.answer_text.specs.declared.answer.Answer.TheVariants.{Flow}
+use Rattle.answer_text.specs.Answer.{answers}
+use Rattle.answer_text.proofs.SaidLemmas.{said_of_nothing}
 use Rattle.engines.specs.Printing.{potential_lines}
 use Rattle.answer_laws.specs.Text.{FlowsFit, PotentialsFit, written, written_flows}
 use Rattle.dimacs_lines.proofs.Written.{integer_written}

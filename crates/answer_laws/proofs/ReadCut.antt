@@ -3,9 +3,9 @@ use Rattle.std.proofs.Common.{◌≡◌, ℕ, ◌+◌, ◌-◌, ◌<◌, ◌≤�
 use Rattle.std.specs.Fmt.{decimal}
 use Rattle.dimacs_lines.specs.Lines.{Line}
 use Rattle.dimacs_lines.specs.Fields.{words_of}
-use Rattle.dimacs_text.specs.declared.answer.Answer.TheVariants.{Cut}
-use Rattle.dimacs_text.specs.Answer.{Said, answers, and_said, read_shortage, read_cut_node, last_node}
-use Rattle.dimacs_text.proofs.SaidLemmas.{said_of_nothing}
+use Rattle.answer_text.specs.declared.answer.Answer.TheVariants.{Cut}
+use Rattle.answer_text.specs.Answer.{Said, answers, and_said, read_shortage, read_cut_node, last_node}
+use Rattle.answer_text.proofs.SaidLemmas.{said_of_nothing}
 use Rattle.engines.specs.Printing.{breach_text, cut_lines}
 use Rattle.answer_laws.specs.Text.{ids_from}
 use Rattle.dimacs_lines.proofs.Written.{natural_written, last_word, letter_then, number_read}

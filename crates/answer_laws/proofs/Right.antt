@@ -5,12 +5,12 @@ use Rattle.std.specs.List.{AllZip, AllByRecursion}
 use Rattle.dimacs_io.specs.Line.{value_line, flow_line}
 use Rattle.dimacs_text.specs.Reading.{ProblemValue}
 use Rattle.dimacs_text.specs.Lawful.{IsLawfulRow}
-use Rattle.dimacs_text.specs.declared.answer.FlowLine.{FlowLine}
-use Rattle.dimacs_text.specs.declared.answer.Answer.{Answer}
-use Rattle.dimacs_text.specs.declared.answer.Answer.TheVariants.{Flow}
+use Rattle.answer_text.specs.declared.answer.FlowLine.{FlowLine}
+use Rattle.answer_text.specs.declared.answer.Answer.{Answer}
+use Rattle.answer_text.specs.declared.answer.Answer.TheVariants.{Flow}
 use Rattle.dimacs_text.specs.declared.problem.ArcRow.{ArcRow}
 use Rattle.dimacs_text.specs.declared.problem.TheConstants.{CAP_LIMIT, COST_LIMIT}
-use Rattle.dimacs_text.specs.Answer.{answers}
+use Rattle.answer_text.specs.Answer.{answers}
 use Rattle.network.specs.Flow.{net, flow_sum, AllWithinBounds, IsCertifiedFlow, IsPotential}
 use Rattle.network.specs.Instance.{Demand, Supplies, Terminals, Sides, Instance, IsLawful, ArcFits, IsLegalBy, IsCertified, IsBestAnswer, at_node, is_marked, first, numbered_flow, reduced, worth_by}
 use Rattle.network.proofs.Reduction.{rows_of}

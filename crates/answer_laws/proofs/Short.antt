@@ -5,11 +5,11 @@ use Rattle.std.specs.List.{AllByRecursion}
 use Rattle.std.proofs.lemmas.List.Elements.{recursion_from_All}
 use Rattle.dimacs_text.specs.Reading.{ProblemValue}
 use Rattle.dimacs_text.specs.Lawful.{IsLawfulRow, IsWithin}
-use Rattle.dimacs_text.specs.declared.answer.Answer.{Answer}
-use Rattle.dimacs_text.specs.declared.answer.Answer.TheVariants.{Cut}
+use Rattle.answer_text.specs.declared.answer.Answer.{Answer}
+use Rattle.answer_text.specs.declared.answer.Answer.TheVariants.{Cut}
 use Rattle.dimacs_text.specs.declared.problem.ArcRow.{ArcRow}
 use Rattle.dimacs_text.specs.declared.problem.TheConstants.{SUPPLY_LIMIT}
-use Rattle.dimacs_text.specs.Answer.{answers}
+use Rattle.answer_text.specs.Answer.{answers}
 use Rattle.network.specs.Flow.{MinCost, nodes_sum, arcs_sum, crosses, outside, IsViolatedCut}
 use Rattle.network.specs.Instance.{Demand, Supplies, Terminals, Sides, Instance, IsLawful, ArcFits, IsBreach, at_node, is_marked, first, reduced_supply}
 use Rattle.network.proofs.Reduction.{rows_of}

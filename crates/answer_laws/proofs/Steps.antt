@@ -6,12 +6,11 @@ use Rattle.std.specs.Fmt.{decimal, signed_decimal}
 use Rattle.std.specs.List.{list_all}
 use Rattle.dimacs_lines.specs.Lines.{Line, is_too_long}
 use Rattle.dimacs_lines.specs.Stream.{first_fault, fault_among}
-use Rattle.dimacs_lines.specs.Fields.{words_of}
+use Rattle.dimacs_lines.specs.Fields.{words_of, IsNode}
 use Rattle.dimacs_lines.specs.Checks.{natural_in}
-use Rattle.dimacs_text.specs.declared.answer.FlowLine.{FlowLine}
-use Rattle.dimacs_text.specs.Lawful.{IsNode}
-use Rattle.dimacs_text.specs.Answer.{Said, said_of, and_said, line_fault, answer_rule, read_value, read_flow, read_potential}
-use Rattle.dimacs_text.proofs.SaidLemmas.{said_of_push}
+use Rattle.answer_text.specs.declared.answer.FlowLine.{FlowLine}
+use Rattle.answer_text.specs.Answer.{Said, said_of, and_said, line_fault, answer_rule, read_value, read_flow, read_potential}
+use Rattle.answer_text.proofs.SaidLemmas.{said_of_push}
 use Rattle.std.proofs.lemmas.List.Folds.{list_all-append}
 use Rattle.dimacs_lines.proofs.Written.{is_plain, natural_written, integer_written, word_then, last_word, letter_then, number_read, integer_read, value_read}
 

@@ -1,9 +1,9 @@
 //! What is written is read.
 
 ghost use Rattle.std.specs.Prelude.{◌≡◌, ◌^◌, ◌<◌, ℕ, ℤ, Bool, List, Ok, pos, length, unsigned_abs};
-ghost use Rattle.dimacs_text.specs.declared.answer.FlowLine.{FlowLine};
-ghost use Rattle.dimacs_text.specs.declared.answer.Answer.TheVariants.{Cut, Flow};
-ghost use Rattle.dimacs_text.specs.Answer.{answers};
+ghost use Rattle.answer_text.specs.declared.answer.FlowLine.{FlowLine};
+ghost use Rattle.answer_text.specs.declared.answer.Answer.TheVariants.{Cut, Flow};
+ghost use Rattle.answer_text.specs.Answer.{answers};
 ghost use Rattle.engines.specs.Printing.{breach_text};
 ghost use Rattle.answer_laws.specs.Text.{FlowsFit, PotentialsFit, ids_from, written};
 

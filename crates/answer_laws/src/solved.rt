@@ -2,8 +2,8 @@
 
 ghost use Rattle.std.specs.Prelude.{◌≡◌, ℕ, List, Ok, true, length};
 ghost use Rattle.dimacs_text.specs.Reading.{ProblemValue, reads};
-ghost use Rattle.dimacs_text.specs.declared.answer.Answer.{Answer};
-ghost use Rattle.dimacs_text.specs.Answer.{answers};
+ghost use Rattle.answer_text.specs.declared.answer.Answer.{Answer};
+ghost use Rattle.answer_text.specs.Answer.{answers};
 ghost use Rattle.network.specs.Instance.{first};
 ghost use Rattle.flow_solver.specs.Moment.{Moment};
 ghost use Rattle.flow_solver.specs.Answer.{IsAnswered};

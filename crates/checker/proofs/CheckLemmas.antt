@@ -2,11 +2,11 @@
 use Rattle.std.proofs.Common.{◌≡◌, ◌↔◌, IsTrue, ℕ, Bool, true, false, List, [], length, take, Option, None, Some, Result, Ok, Err, refl, sym, ap, append-nil, if◌then◌else◌, subst}
 use Rattle.std.specs.Io.KnownBytes.{Appends}
 use Rattle.dimacs_io.specs.Device.{AppendsBeginning}
-use Rattle.dimacs_text.specs.declared.answer.Answer.{Answer}
+use Rattle.answer_text.specs.declared.answer.Answer.{Answer}
 use Rattle.dimacs_lines.specs.declared.fault.TextFault.TheVariants as text_fault
 use Rattle.dimacs_lines.specs.Stream.{decided}
 use Rattle.dimacs_text.specs.Reading.{ProblemValue, problem_rule, reads}
-use Rattle.dimacs_text.specs.Answer.{answer_rule, answers}
+use Rattle.answer_text.specs.Answer.{answer_rule, answers}
 use Rattle.runs.specs.declared.end.Text.TheVariants as the
 use Rattle.runs.specs.declared.end.End.TheVariants.{Valid, NotValid, WriteFailed}
 use Rattle.runs.specs.declared.read.ReadError.{ReadError}

@@ -5,13 +5,13 @@ use Rattle.dimacs_io.specs.Device.{IsBeginning, text_over}
 use Rattle.dimacs_io.specs.declared.device.Sink as sink
 use Rattle.dimacs_io.specs.declared.device.Source as source
 use Rattle.dimacs_text.specs.declared.problem.ArcRow.{ArcRow}
-use Rattle.dimacs_text.specs.declared.answer.FlowLine.{FlowLine}
-use Rattle.dimacs_text.specs.declared.answer.Answer.{Answer}
-use Rattle.dimacs_text.specs.declared.answer.Answer.TheVariants.{Flow, Cut}
+use Rattle.answer_text.specs.declared.answer.FlowLine.{FlowLine}
+use Rattle.answer_text.specs.declared.answer.Answer.{Answer}
+use Rattle.answer_text.specs.declared.answer.Answer.TheVariants.{Flow, Cut}
 use Rattle.dimacs_lines.specs.declared.fault.TextFault.TheVariants.{Fault}
 use Rattle.dimacs_lines.specs.Stream.{decided}
 use Rattle.dimacs_text.specs.Reading.{ProblemValue, problem_rule, reads}
-use Rattle.dimacs_text.specs.Answer.{answer_rule, answers}
+use Rattle.answer_text.specs.Answer.{answer_rule, answers}
 use Rattle.network.specs.Instance.{IsBest, IsBestAnswer, IsCutAnswer, IsLegal, first}
 use Rattle.runs.specs.declared.end.Text.TheVariants as the
 use Rattle.runs.specs.declared.end.End.{End}

@@ -6,6 +6,8 @@ pub mod CutLemmas
 pub mod PlaceLemmas
 pub mod WordLemmas
 pub mod NumberLemmas
+pub mod CheckLemmas
+pub mod OtherLemmas
 pub mod DigitLemmas
 pub mod FrontLemmas
 pub mod StreamLemmas

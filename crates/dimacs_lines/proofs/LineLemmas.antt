@@ -1,5 +1,7 @@
 -- The lines of a text that goes on.
 use Rattle.std.proofs.Common.{◌≡◌, ℕ, Bool, true, false, cond, List, [], ◌∷◌, ◌++◌, append-nil, refl, sym, ap, ◌∙◌}
+use Rattle.std.specs.List.{flat_map}
+use Rattle.std.proofs.lemmas.Grind.{flat_map-append}
 use Rattle.dimacs_lines.specs.Lines.{Line, Parts, is_line_feed, with_first, parts_of}
 
 -- the parts of two texts in a row
@@ -44,3 +46,7 @@ pub ended-stay : (text more : List ℕ) → (others : List Line) × ((parts_of (
 ended-stay text more =
     let stay = joined-stay (parts_of text).ended (parts_of text).rest (parts_of more).ended (parts_of more).rest in
     (stay.0, ap (λ (p : Parts). p.ended) (parts_of-append text more) ∙ stay.1)
+
+-- what lines say with one line more
+pub flat_map_push : {B : Type 0} (f : Line → List B) (lines : List Line) (line : Line) → flat_map f (lines ++ line ∷ []) ≡ flat_map f lines ++ f line
+flat_map_push {B = B} f lines line = flat_map-append f lines (line ∷ []) ∙ ap (λ (ys : List B). flat_map f lines ++ ys) (append-nil (f line))

@@ -1,5 +1,5 @@
--- The words of a line, and the numbers that words spell.
-use Rattle.std.specs.Prelude.{ℕ, ◌+◌, ◌-◌, ◌*◌, Bool, true, false, not, ◌&&◌, ◌||◌, List, [], ◌∷◌, Option, Some, None, length, drop, nat_le, ◌==◌, if◌then◌else◌, ℤ, pos, neg_ℤ}
+-- The words of a line, its fields, and the numbers that words spell.
+use Rattle.std.specs.Prelude.{ℕ, ◌+◌, ◌-◌, ◌*◌, ◌≤◌, Bool, true, false, not, ◌&&◌, ◌||◌, List, [], ◌∷◌, Option, Some, None, length, take, drop, slice_index_or, unwrap_or, bytes_eq, codes, nat_le, ◌==◌, if◌then◌else◌, ℤ, pos, neg_ℤ}
 use Rattle.std.specs.List.{fold, list_all, position_or_len}
 use Rattle.std.specs.Option.{option_map}
 use Rattle.dimacs_lines.specs.declared.numbers.TheConstants.{DIGIT_LIMIT, VALUE_DIGIT_LIMIT}
@@ -65,3 +65,27 @@ integer word = option_map (with_sign (is_negative word)) (natural (without_sign 
 -- the value of an answer, which has more digits
 unfoldable pub claimed_value : Word → Option ℤ
 claimed_value word = option_map (with_sign (is_negative word)) (natural_within VALUE_DIGIT_LIMIT (without_sign word))
+
+-- ---- of a line with a designator, its first word
+
+-- the word begins with `c`
+abbrev pub begins_comment : Word → Bool
+begins_comment word = bytes_eq (take 1 word) (codes "c")
+
+-- the words after the designator
+abbrev pub fields_of : List Word → List Word
+fields_of words = drop 1 words
+
+abbrev pub field : ℕ → List Word → Word
+field place fields = slice_index_or fields place []
+
+-- the number of a field, where it is one
+abbrev pub natural_value : Word → ℕ
+natural_value word = unwrap_or (natural word) 0
+
+abbrev pub integer_value : Word → ℤ
+integer_value word = unwrap_or (integer word) (pos 0)
+
+-- one of so many nodes, which count from 1
+abbrev pub IsNode : ℕ → ℕ → Type 0
+IsNode nodes id = (1 ≤ id) × (id ≤ nodes)

@@ -22,4 +22,4 @@ pub use numbers::{
 };
 pub use reader::{LineTaker, TextReader, decided_for_any_rule};
 pub use sequence::Sequence;
-pub use words::{Word, Words, is_blank};
+pub use words::{Word, Words, is_blank, is_word};

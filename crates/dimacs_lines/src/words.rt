@@ -1,6 +1,6 @@
 //! The words of a line.
 
-ghost use Rattle.std.specs.Prelude.{◌≡◌, ◌≢◌, ◌↔◌, IsTrue, ◌∷◌, [], ◌<◌, ◌≤◌, ◌+◌, length, drop, min, IfSome, MatchOption, MatchResult, ◌^◌};
+ghost use Rattle.std.specs.Prelude.{◌≡◌, ◌≢◌, ◌↔◌, IsTrue, ◌∷◌, [], ◌<◌, ◌≤◌, ◌+◌, length, drop, min, IfSome, MatchOption, MatchResult, ◌^◌, bytes_eq};
 ghost use Rattle.std.specs.List.{position_or_len};
 ghost use Rattle.dimacs_lines.specs.Fields.{is_blank, word_begin, words_of, natural};
 ghost use Rattle.dimacs_lines.specs.declared.fault.LineFault.TheVariants as LineFault;
@@ -251,4 +251,12 @@ pub(crate) fn is_blank_byte(byte: u8) -> bool
     ensures { result ≡ is_blank byte }
 {
     byte == b' ' || byte == b'\t' || byte == b'\r'
+}
+
+/// Whether a word is this one.
+#[inline(always)]
+pub fn is_word(word: &[u8], other: &[u8]) -> bool
+    ensures { result ≡ bytes_eq word.now other.now }
+{
+    word == other
 }

@@ -4,11 +4,6 @@ pub mod SoundLemmas
 pub mod TakeLemmas
 pub mod OtherLemmas
 pub mod ReadLemmas
-pub mod AnswerDecidedLemmas
-pub mod AnswerLemmas
-pub mod AnswerLineLemmas
-pub mod AnswerTakeLemmas
-pub mod SaidLemmas
 pub mod BracketLemmas
 pub mod GroupLemmas
 pub mod TurnLemmas

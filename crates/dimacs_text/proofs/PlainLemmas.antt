@@ -1,11 +1,11 @@
 -- Arc lines without a fault.
 use Rattle.std.proofs.Common.{◌≡◌, ℕ, ◌<◌, ◌≤◌, true, false, List, [], ◌∷◌, length, Option, Some, None, IfSome, Ok, ℤ, pos, neg_ℤ, ◌≤ℤ◌, int_le, refl, arith}
 use Rattle.std.proofs.lemmas.Bool.{le-leb, lt-ltb}
-use Rattle.dimacs_lines.specs.Fields.{Word, natural, integer}
+use Rattle.dimacs_lines.specs.Fields.{Word, natural, integer, IsNode}
 use Rattle.dimacs_lines.specs.Checks.{natural_in, integer_in}
 use Rattle.dimacs_lines.specs.Front.{IsNextNatural, IsNextInteger, EndsLine}
 use Rattle.dimacs_lines.proofs.FrontLemmas.{word_more}
-use Rattle.dimacs_text.specs.Lawful.{IsNode, IsWithin, AreTerminals}
+use Rattle.dimacs_text.specs.Lawful.{IsWithin, AreTerminals}
 use Rattle.dimacs_text.specs.declared.problem.Kind.TheVariants.{Max}
 use Rattle.dimacs_text.specs.declared.problem.Size.{Size}
 use Rattle.dimacs_text.specs.declared.problem.ArcRow.{ArcRow}

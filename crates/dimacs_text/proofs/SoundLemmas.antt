@@ -13,7 +13,8 @@ use Rattle.dimacs_text.specs.declared.problem.NodeMark.TheVariants.{Supply, Sour
 use Rattle.dimacs_text.specs.declared.problem.ArcRow.{ArcRow}
 use Rattle.dimacs_text.specs.declared.problem.Size.{Size}
 use Rattle.dimacs_text.specs.Problem.{node_of, is_named, has_source, has_sink, has_terminals}
-use Rattle.dimacs_text.specs.Lawful.{IsNode, IsLawfulSize, IsLawfulMark, IsLawfulRow, NamesOthers, AreLawful, FlagNamed, IsSupply, IsTerminal, IsSide, AreTerminals, MarksFit, RowFits, KeepsKind, IsMax, IsByKind, IsProblem, IsSized, IsSound}
+use Rattle.dimacs_lines.specs.Fields.{IsNode}
+use Rattle.dimacs_text.specs.Lawful.{IsLawfulSize, IsLawfulMark, IsLawfulRow, NamesOthers, AreLawful, FlagNamed, IsSupply, IsTerminal, IsSide, AreTerminals, MarksFit, RowFits, KeepsKind, IsMax, IsByKind, IsProblem, IsSized, IsSound}
 
 -- ---- marks
 

@@ -16,10 +16,9 @@ use Rattle.dimacs_text.specs.declared.command.Verb.{Verb}
 use Rattle.dimacs_text.specs.declared.command.Verb.TheVariants as verbs
 use Rattle.dimacs_text.specs.CommandFault.{number_of, in_line}
 use Rattle.dimacs_lines.specs.Lines.{Line, is_too_long}
-use Rattle.dimacs_lines.specs.Fields.{Word, words_of}
+use Rattle.dimacs_lines.specs.Fields.{Word, words_of, field}
 use Rattle.dimacs_lines.specs.Name.{name_of}
 use Rattle.dimacs_lines.specs.Checks.{◌>>=◌, demand, some_or, numbered, has_fields, number_in, natural_in, integer_in}
-use Rattle.dimacs_text.specs.Problem.{field}
 
 -- the verb that a word is
 abbrev pub verb_of : Word → Option Verb

@@ -1,6 +1,7 @@
 -- The limits and rules that a problem keeps.
 use Rattle.std.specs.Prelude.{◌≡◌, ◌≢◌, ℕ, ◌-◌, ◌≤◌, Bool, true, false, List, [], ◌∷◌, Option, Some, None, length, ℤ, pos, neg_ℤ, ◌≤ℤ◌, slice_index_or}
 use Rattle.std.specs.List.{All, AllPairs}
+use Rattle.dimacs_lines.specs.Fields.{IsNode}
 use Rattle.dimacs_text.specs.declared.problem.Kind.{Kind}
 use Rattle.dimacs_text.specs.declared.problem.Kind.TheVariants.{Min, Max, Asn}
 use Rattle.dimacs_text.specs.declared.problem.NodeMark.{NodeMark}
@@ -13,10 +14,6 @@ use Rattle.dimacs_text.specs.Problem.{node_of, is_named, source_of, sink_of}
 -- a number is at most the limit, either way
 abbrev pub IsWithin : ℤ → ℤ → Type 0
 IsWithin limit z = (neg_ℤ limit ≤ℤ z) × (z ≤ℤ limit)
-
--- one of the nodes
-abbrev pub IsNode : ℕ → ℕ → Type 0
-IsNode nodes id = (1 ≤ id) × (id ≤ nodes)
 
 pub record IsLawfulSize (size : Size) : Type 0 where
   pub some_node : 1 ≤ size.nodes

@@ -1,12 +1,9 @@
 pub mod ProblemFault
-pub mod AnswerFault
 pub mod CommandFault
 pub mod Problem
 pub mod Lawful
 pub mod Reading
 pub mod ProblemReader
 pub mod Command
-pub mod Answer
-pub mod AnswerReader
 pub mod Group
 pub mod Turns

@@ -1,8 +1,8 @@
 -- Problem texts: what each line says by itself, and its fault among the lines before it.
-use Rattle.std.specs.Prelude.{ℕ, Bool, true, false, not, ◌&&◌, ◌||◌, List, [], ◌∷◌, ◌++◌, Option, Some, None, Result, Ok, Err, length, drop, unwrap_or, nat_le, nat_lt, ◌==◌, is_none, if◌then◌else◌, ℤ, pos, slice_index_or, take, bytes_eq, codes}
+use Rattle.std.specs.Prelude.{ℕ, Bool, true, false, not, ◌&&◌, ◌||◌, List, [], ◌∷◌, ◌++◌, Option, Some, None, Result, Ok, Err, length, unwrap_or, nat_le, nat_lt, ◌==◌, is_none, if◌then◌else◌, ℤ, pos, bytes_eq, codes}
 use Rattle.std.specs.List.{flat_map, list_any}
 use Rattle.dimacs_lines.specs.Lines.{Line}
-use Rattle.dimacs_lines.specs.Fields.{Word, words_of, natural, integer}
+use Rattle.dimacs_lines.specs.Fields.{Word, words_of, begins_comment, fields_of, field, natural_value, integer_value}
 use Rattle.dimacs_lines.specs.Checks.{◌>>=◌, demand, some_or, has_fields, natural_in, integer_in}
 use Rattle.dimacs_lines.specs.declared.fault.LineFault.TheVariants as of_line
 use Rattle.dimacs_text.specs.declared.problem_fault.ProblemFault.{ProblemFault}
@@ -19,10 +19,6 @@ use Rattle.dimacs_text.specs.declared.designator.Designator.{Designator}
 use Rattle.dimacs_text.specs.declared.designator.Designator.TheVariants as designator
 
 -- ---- a line by itself
-
--- the word begins with `c`
-abbrev pub begins_comment : Word → Bool
-begins_comment word = bytes_eq (take 1 word) (codes "c")
 
 -- what the first word makes of a line
 abbrev pub designator_of : Word → Designator
@@ -47,20 +43,6 @@ is_node _ = false
 abbrev pub is_arc : Option Designator → Bool
 is_arc (Some designator.Arc) = true
 is_arc _ = false
-
--- the words after the designator
-abbrev pub fields_of : List Word → List Word
-fields_of words = drop 1 words
-
-abbrev pub field : ℕ → List Word → Word
-field place fields = slice_index_or fields place []
-
--- the number of a field, where it is one
-abbrev pub natural_value : Word → ℕ
-natural_value word = unwrap_or (natural word) 0
-
-abbrev pub integer_value : Word → ℤ
-integer_value word = unwrap_or (integer word) (pos 0)
 
 -- the kind that a word names
 abbrev pub kind_named : Word → Option Kind

@@ -8,9 +8,10 @@ ghost use Rattle.dimacs_lines.specs.Lines.{Line};
 ghost use Rattle.dimacs_text.specs.Command.{asked, command, opens_group, ends_group, verb_of, is_for, read_words, read_by, read_bare, read_name, read_cap, read_low, read_cost, read_supply, read_add, read_min_arc, read_max_arc, read_asn_arc, read_close, as_edit};
 
 use crate::command_fault::CommandFault;
-use crate::designator::is_word;
 use crate::problem::{CAP_LIMIT, COST_LIMIT, Kind, SUPPLY_LIMIT};
-use dimacs_lines::{LINE_LIMIT, LineFault, Name, Words, integer_in, natural_in, number_in};
+use dimacs_lines::{
+    LINE_LIMIT, LineFault, Name, Words, integer_in, is_word, natural_in, number_in,
+};
 
 /// A change of an instance. Arcs and nodes are named by their numbers, counted from 1; whether they exist is not tested
 /// yet.

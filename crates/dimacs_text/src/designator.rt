@@ -1,6 +1,6 @@
 //! The lines of a problem text.
 
-ghost use Rattle.std.specs.Prelude.{◌≡◌, bytes_eq};
+ghost use Rattle.std.specs.Prelude.{◌≡◌};
 
 /// What the first word makes of a line.
 #[derive(Clone, Copy)]
@@ -27,12 +27,4 @@ impl Designator {
             _ => Designator::Unknown,
         }
     }
-}
-
-/// Whether a word is this one.
-#[inline(always)]
-pub fn is_word(word: &[u8], other: &[u8]) -> bool
-    ensures { result ≡ bytes_eq word.now other.now }
-{
-    word == other
 }

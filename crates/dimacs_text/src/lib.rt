@@ -1,11 +1,6 @@
 //! Readers of DIMACS network texts that come in pieces.
 #![tactic(auto)]
 
-mod answer;
-mod answer_draft;
-mod answer_fault;
-mod answer_line;
-mod answer_reader;
 mod command;
 mod command_fault;
 mod designator;
@@ -18,9 +13,7 @@ mod problem_reader;
 mod terminals;
 mod turns;
 
-pub use answer::{Answer, FlowLine};
-pub use answer_fault::AnswerFault;
-pub use answer_reader::{AnswerReader, answer_decided_for_all};
+pub use answer_text::{Answer, AnswerFault, AnswerReader, FlowLine, answer_decided_for_all};
 pub use command::{Command, Edit, groups_are_bracketed, read_command};
 pub use command_fault::CommandFault;
 pub use dimacs_lines::{

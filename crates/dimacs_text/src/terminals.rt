@@ -3,9 +3,9 @@
 ghost use Rattle.std.specs.Prelude.{◌≡◌};
 ghost use Rattle.dimacs_text.specs.Problem.{is_source, is_sink, has_source, has_sink, has_terminals, is_source_word, is_sink_word, terminal_by};
 
-use crate::designator::is_word;
 use crate::problem::{Kind, NodeMark};
 use crate::problem_fault::ProblemFault;
+use dimacs_lines::is_word;
 
 /// Whether each terminal that the kind asks for is named.
 pub fn has_terminals(kind: Kind, marks: &[NodeMark]) -> bool

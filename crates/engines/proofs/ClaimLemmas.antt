@@ -10,12 +10,12 @@ use Rattle.dimacs_lines.specs.Lines.{lines_of}
 use Rattle.dimacs_text.specs.declared.command.Command.{Command}
 use Rattle.dimacs_text.specs.declared.command.Command.TheVariants as commands
 use Rattle.dimacs_text.specs.declared.command.Edit.{Edit}
-use Rattle.dimacs_text.specs.Answer.{answers}
+use Rattle.answer_text.specs.Answer.{answers}
 use Rattle.dimacs_text.specs.Command.{command}
 use Rattle.dimacs_text.specs.Group.{Gathered, gathered}
 use Rattle.dimacs_text.specs.Reading.{ProblemValue, reads}
 use Rattle.dimacs_text.specs.Turns.{Turn, OfLine, OfGroup}
-use Rattle.dimacs_text.specs.declared.answer.Answer.{Answer}
+use Rattle.answer_text.specs.declared.answer.Answer.{Answer}
 use Rattle.network.specs.Edited.{edited, edited_all}
 use Rattle.network.specs.Instance.{Instance, is_marked, kind_of}
 use Rattle.history.specs.Boards.{all_boards}

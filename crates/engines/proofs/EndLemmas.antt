@@ -1,9 +1,9 @@
 -- How runs end where no call fails and memory is found.
 use Rattle.std.proofs.Common.{◌≡◌, ◌≢◌, ℕ, Bool, List, length, Option, Some, Ok, inl, inr, refl}
 use Rattle.std.specs.Prelude.{◌⊎◌}
-use Rattle.dimacs_text.specs.Answer.{answers}
+use Rattle.answer_text.specs.Answer.{answers}
 use Rattle.dimacs_text.specs.Reading.{ProblemValue, reads}
-use Rattle.dimacs_text.specs.declared.answer.Answer.{Answer}
+use Rattle.answer_text.specs.declared.answer.Answer.{Answer}
 use Rattle.checker.specs.Check.{CheckOnDevices}
 use Rattle.runs.specs.Devices.{answer_failures, command_failures, problem_failures, write_failures}
 use Rattle.runs.specs.declared.end.Text.TheVariants as the

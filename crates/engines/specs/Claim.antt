@@ -4,10 +4,10 @@
 use Rattle.std.specs.Prelude.{◌≡◌, ⊤, ℕ, ℤ, Bool, IsTrue, ◌↔◌, List, [], ◌∷◌, ◌++◌, length, Option, Some, Ok}
 use Rattle.std.specs.List.{All, concat}
 use Rattle.dimacs_lines.specs.Lines.{lines_of}
-use Rattle.dimacs_text.specs.Answer.{answers}
+use Rattle.answer_text.specs.Answer.{answers}
 use Rattle.dimacs_text.specs.Reading.{ProblemValue, reads}
 use Rattle.dimacs_text.specs.Turns.{Turn}
-use Rattle.dimacs_text.specs.declared.answer.Answer.{Answer}
+use Rattle.answer_text.specs.declared.answer.Answer.{Answer}
 use Rattle.dimacs_text.specs.declared.command.Command.TheVariants as commands
 use Rattle.network.specs.Instance.{Instance, first, is_marked, numbered_flow, worth, IsBest, IsBreach, IsLegal}
 use Rattle.history.specs.Boards.{Advances, all_boards}

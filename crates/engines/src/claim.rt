@@ -3,9 +3,9 @@
 ghost use Rattle.std.specs.Prelude.{◌≡◌, ◌≢◌, ◌⊎◌, ℕ, Bool, List, length, Ok, Option, Some};
 ghost use Rattle.checker.specs.Check.{CheckOnDevices, ValidSettles};
 ghost use Rattle.runs.specs.Devices.{answer_failures, command_failures, problem_failures, write_failures};
-ghost use Rattle.dimacs_text.specs.Answer.{answers};
+ghost use Rattle.answer_text.specs.Answer.{answers};
 ghost use Rattle.dimacs_text.specs.Reading.{ProblemValue, reads};
-ghost use Rattle.dimacs_text.specs.declared.answer.Answer.{Answer};
+ghost use Rattle.answer_text.specs.declared.answer.Answer.{Answer};
 ghost use Rattle.runs.specs.declared.end.End.{End};
 ghost use Rattle.runs.specs.declared.end.End.TheVariants.{Solved, Infeasible, Ended, Valid, NotValid, Memory};
 ghost use Rattle.engines.specs.Claim.{Written, SolvesRightly, ServesRightly, JudgesRightly, RefusedTurnsChangeNothing, UndoRestores};

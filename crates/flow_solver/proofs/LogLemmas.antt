@@ -8,7 +8,7 @@ use native.Mathlib.Numerals.{unary_clauses}
 use Rattle.network.proofs.EndLinks.{slice_get-set_other}
 use Rattle.dimacs_text.specs.declared.problem.ArcRow.{ArcRow}
 use Rattle.dimacs_text.specs.declared.problem.Kind.TheVariants.{Min}
-use Rattle.dimacs_text.specs.Lawful.{IsNode}
+use Rattle.dimacs_lines.specs.Fields.{IsNode}
 use Rattle.network.specs.Instance.{Demand, Supplies, Instance, IsLawful, DemandFits, arc_at, kind_of, reduced_supply, with_supply}
 use Rattle.flow_solver.specs.declared.part.Part.{Part}
 use Rattle.flow_solver.specs.declared.part.Part.TheVariants.{Arc, Supply, Last}

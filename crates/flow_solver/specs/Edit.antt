@@ -4,7 +4,8 @@ use Rattle.dimacs_text.specs.declared.problem.ArcRow.{ArcRow}
 use Rattle.network.specs.Flow.{FollowsSign, IsCertifiedFlow, IsPotential, reduced_cost, total_excess}
 use Rattle.network.specs.Instance.{Instance, ArcFits, arc_at, at_node, kind_of, reduced, with_supply}
 use Rattle.network.specs.Edited.{arc_of, edited, units, units_all}
-use Rattle.dimacs_text.specs.Lawful.{IsLawfulRow, IsNode, IsWithin}
+use Rattle.dimacs_lines.specs.Fields.{IsNode}
+use Rattle.dimacs_text.specs.Lawful.{IsLawfulRow, IsWithin}
 use Rattle.dimacs_text.specs.declared.problem.TheConstants.{SUPPLY_LIMIT}
 use Rattle.dimacs_text.specs.declared.problem.Kind.TheVariants.{Min}
 use Rattle.dimacs_text.specs.declared.command.Edit.{Edit}

@@ -1,6 +1,7 @@
 -- How the last change of an instance is taken back, part by part.
 use Rattle.std.specs.Prelude.{◌≡◌, ℕ, ◌-◌, ◌<◌, List, [], ◌∷◌, ◌++◌, length, map, take, Option, None, Some, IfSome, Ok, slice_set}
-use Rattle.dimacs_text.specs.Lawful.{IsNode, IsWithin}
+use Rattle.dimacs_lines.specs.Fields.{IsNode}
+use Rattle.dimacs_text.specs.Lawful.{IsWithin}
 use Rattle.dimacs_text.specs.declared.command.Edit.{Edit}
 use Rattle.dimacs_text.specs.declared.command.Edit.TheVariants as edits
 use Rattle.dimacs_text.specs.declared.problem.TheConstants.{SUPPLY_LIMIT}

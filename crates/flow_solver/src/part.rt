@@ -2,7 +2,7 @@
 
 ghost use Rattle.std.specs.Prelude.{◌≡◌, IsOk, None, Some};
 ghost use Rattle.network.specs.Edited.{edited};
-ghost use Rattle.dimacs_text.specs.Lawful.{IsNode};
+ghost use Rattle.dimacs_lines.specs.Fields.{IsNode};
 ghost use Rattle.network.specs.Instance.{IsLawful, arc_at, reduced_supply};
 
 use crate::answer::supply_at;

@@ -4,7 +4,7 @@ mod changes;
 mod exchanges;
 
 ghost use Rattle.std.specs.Prelude.{◌≡◌, ◌≢◌, AllPairs, ◌≤◌, IfOk, IfSome, IsSome, None, Some, length, ◌+◌};
-ghost use Rattle.dimacs_text.specs.Lawful.{IsNode};
+ghost use Rattle.dimacs_lines.specs.Fields.{IsNode};
 ghost use Rattle.network.specs.Instance.{arc_at, reduced_supply};
 ghost use Rattle.network.specs.Rows.{return_arcs};
 ghost use Rattle.tracked.specs.Touched.{NameChanges};

@@ -7,7 +7,7 @@ use Rattle.dimacs_text.specs.declared.command.Edit.{Edit}
 use Rattle.dimacs_text.specs.declared.command.Edit.TheVariants.{Cap, Low, Cost, Supply, Add, Close}
 use Rattle.dimacs_text.specs.declared.problem.ArcRow.{ArcRow}
 use Rattle.dimacs_text.specs.declared.problem.Kind.TheVariants.{Min}
-use Rattle.dimacs_text.specs.Lawful.{IsNode}
+use Rattle.dimacs_lines.specs.Fields.{IsNode}
 use Rattle.network.specs.Edited.{with_arc, edited, has_edit}
 use Rattle.network.specs.Instance.{Demand, Supplies, Instance, arc_at, kind_of, with_supply}
 use Rattle.network.proofs.EndLemmas.{no_arc}

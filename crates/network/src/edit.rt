@@ -1,7 +1,8 @@
 //! How an instance is made, and how it grows.
 ghost use Rattle.std.specs.Prelude.{◌≡◌, ◌+◌, ◌-◌, ◌*◌, ◌<◌, ◌≤◌, ◌++◌, All, IfOk, length, slice_index_or, vec_capacity, vec_len};
 ghost use Rattle.network.specs.Ends.{AddsEnd, AreEndLists, RemovesEnd};
-ghost use Rattle.dimacs_text.specs.Lawful.{IsLawfulRow, IsNode, IsWithin};
+ghost use Rattle.dimacs_lines.specs.Fields.{IsNode};
+ghost use Rattle.dimacs_text.specs.Lawful.{IsLawfulRow, IsWithin};
 ghost use Rattle.network.specs.Edited.{with_arc, with_last, with_node_supply};
 ghost use Rattle.network.specs.Instance.{ArcFits, at_node, kind_of};
 ghost use Rattle.network.specs.Representation.{ends_in, front, instance_of, return_rows, CanBegin};

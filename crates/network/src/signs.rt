@@ -3,7 +3,8 @@ ghost use Rattle.std.specs.Prelude.{◌≡◌, ◌↔◌, ℕ, ◌^◌, ◌≤�
 ghost use Rattle.std.specs.Int.{w64};
 ghost use Rattle.std.specs.List.{AllZip};
 ghost use Rattle.network.specs.Flow.{FollowsSign, IsPotential, reduced_cost};
-ghost use Rattle.dimacs_text.specs.Lawful.{IsLawfulRow, IsNode, IsWithin};
+ghost use Rattle.dimacs_lines.specs.Fields.{IsNode};
+ghost use Rattle.dimacs_text.specs.Lawful.{IsLawfulRow, IsWithin};
 ghost use Rattle.network.specs.Instance.{at_node};
 
 use crate::LEAST_POTENTIAL;

@@ -1,6 +1,7 @@
 //! The instance that a problem begins with.
 ghost use Rattle.std.specs.Prelude.{◌≡◌, All, AllPairs, IfOk, vec_len};
-ghost use Rattle.dimacs_text.specs.Lawful.{IsNode, NamesOthers};
+ghost use Rattle.dimacs_lines.specs.Fields.{IsNode};
+ghost use Rattle.dimacs_text.specs.Lawful.{NamesOthers};
 ghost use Rattle.dimacs_text.specs.Problem.{node_of, sink_of, source_of};
 ghost use Rattle.network.specs.Instance.{by_node, first};
 ghost use Rattle.network.specs.Representation.{instance_of, CanBegin};

@@ -1,7 +1,8 @@
 //! The network in the forms that searches read.
 
 ghost use Rattle.std.specs.Prelude.{◌≡◌, ℕ, ◌+◌, ◌-◌, ◌*◌, ◌<◌, ◌≤◌, ◌↔◌, ◌++◌, ◌∷◌, [], IfOk, IfSome, IsTrue, length, slice_index, slice_index_or};
-ghost use Rattle.dimacs_text.specs.Lawful.{IsLawfulRow, IsNode, IsWithin};
+ghost use Rattle.dimacs_lines.specs.Fields.{IsNode};
+ghost use Rattle.dimacs_text.specs.Lawful.{IsLawfulRow, IsWithin};
 ghost use Rattle.dimacs_text.specs.declared.problem.Kind.TheVariants.{Min};
 ghost use Rattle.dimacs_text.specs.declared.problem.TheConstants.{SUPPLY_LIMIT};
 ghost use Rattle.network.specs.Edited.{with_arc, with_last, with_node_supply};

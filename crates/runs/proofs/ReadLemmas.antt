@@ -7,10 +7,10 @@ use Rattle.dimacs_lines.specs.Lines.{Line}
 use Rattle.dimacs_lines.specs.Reader.{Feeds, StandsFor}
 use Rattle.dimacs_lines.specs.Stream.{Rule, decided}
 use Rattle.dimacs_text.specs.Reading.{ProblemValue, reads}
-use Rattle.dimacs_text.specs.Answer.{answers}
-use Rattle.dimacs_text.specs.declared.answer.Answer.{Answer}
+use Rattle.answer_text.specs.Answer.{answers}
+use Rattle.answer_text.specs.declared.answer.Answer.{Answer}
 use Rattle.dimacs_text.specs.ProblemReader as problem
-use Rattle.dimacs_text.specs.AnswerReader as answer
+use Rattle.answer_text.specs.AnswerReader as answer
 use Rattle.runs.specs.declared.read.ReadError.TheVariants as read_error
 use Rattle.runs.specs.Reading.{FinishesText, HasEnded, HasTaken, ReadsText}
 

@@ -4,9 +4,9 @@ use Rattle.std.specs.Io.KnownBytes.{Consumes, IsAtEnd}
 use Rattle.dimacs_io.specs.Device.{IsBeginning}
 use Rattle.dimacs_lines.specs.declared.fault.TextFault.{TextFault}
 use Rattle.dimacs_lines.specs.declared.fault.TextFault.TheVariants as text_fault
-use Rattle.dimacs_text.specs.Answer.{answers}
+use Rattle.answer_text.specs.Answer.{answers}
 use Rattle.dimacs_text.specs.Reading.{ProblemValue, reads}
-use Rattle.dimacs_text.specs.declared.answer.Answer.{Answer}
+use Rattle.answer_text.specs.declared.answer.Answer.{Answer}
 use Rattle.runs.specs.declared.read.ReadError.{ReadError}
 use Rattle.runs.specs.declared.read.ReadError.TheVariants as read_error
 use Rattle.runs.specs.declared.end.Text.{Text}

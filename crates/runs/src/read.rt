@@ -3,7 +3,7 @@ ghost use Rattle.std.specs.Prelude.{◌≡◌, ℕ, ◌-◌, ◌^◌, ◌<◌, L
 ghost use Rattle.dimacs_lines.specs.Stream.{decided};
 ghost use Rattle.dimacs_lines.specs.declared.fault.TextFault.{TextFault};
 ghost use Rattle.dimacs_text.specs.Reading.{problem_rule, reads};
-ghost use Rattle.dimacs_text.specs.Answer.{answer_rule, answers};
+ghost use Rattle.answer_text.specs.Answer.{answer_rule, answers};
 ghost use Rattle.dimacs_io.specs.Device.{text_over};
 ghost use Rattle.runs.specs.Reading.{CountsRead, FailsLastRead, FinishesText, HasTaken, ReadsKnown, ReadsText, SourceGives, SourceIsRead, reads_all};
 
@@ -119,7 +119,7 @@ impl PieceReader for ProblemReader {
 
 impl PieceReader for AnswerReader {
     ghost use Rattle.std.specs.Prelude.{ℕ};
-    ghost use Rattle.dimacs_text.specs.AnswerReader.{StandsFor};
+    ghost use Rattle.answer_text.specs.AnswerReader.{StandsFor};
 
     type Content = Answer;
 

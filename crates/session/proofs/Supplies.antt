@@ -3,7 +3,8 @@ use Rattle.std.proofs.Common.{◌≡◌, ℕ, ◌≤◌, length, refl, arith}
 use Rattle.std.specs.List.{All}
 use Rattle.dimacs_text.specs.declared.problem.Kind.TheVariants.{Min}
 use Rattle.dimacs_text.specs.declared.problem.TheConstants.{SUPPLY_LIMIT}
-use Rattle.dimacs_text.specs.Lawful.{IsNode, IsWithin}
+use Rattle.dimacs_lines.specs.Fields.{IsNode}
+use Rattle.dimacs_text.specs.Lawful.{IsWithin}
 use Rattle.network.specs.Instance.{Demand, Supplies, kind_of, DemandFits}
 use Rattle.flow_solver.specs.TablesView.{supplies_in}
 

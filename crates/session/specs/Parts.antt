@@ -4,7 +4,8 @@ use Rattle.std.proofs.Math.ListN.{replicate}
 use Rattle.dimacs_text.specs.declared.problem.ArcRow.{ArcRow}
 use Rattle.dimacs_text.specs.declared.problem.Kind.TheVariants.{Min}
 use Rattle.dimacs_text.specs.declared.problem.TheConstants.{ARC_LIMIT, SUPPLY_LIMIT}
-use Rattle.dimacs_text.specs.Lawful.{IsNode, IsWithin}
+use Rattle.dimacs_lines.specs.Fields.{IsNode}
+use Rattle.dimacs_text.specs.Lawful.{IsWithin}
 use Rattle.network.specs.Instance.{Demand, Supplies, Terminals, Sides, Instance, kind_of, numbered_flow, with_supply}
 use Rattle.flow_solver.specs.Moment.{Moment}
 use Rattle.flow_solver.specs.TablesView.{IsFlowValue, IsRowOf, HasEnds, supplies_in}

@@ -1,7 +1,8 @@
 //! Exchanges: what stands at one place goes, and something else comes. Each forgets what stood before the last change.
 
 ghost use Rattle.std.specs.Prelude.{◌≡◌, ◌-◌, ◌<◌, ◌≤◌, ◌++◌, ◌∷◌, [], None, length, slice_index_or};
-ghost use Rattle.dimacs_text.specs.Lawful.{IsNode, IsWithin};
+ghost use Rattle.dimacs_lines.specs.Fields.{IsNode};
+ghost use Rattle.dimacs_text.specs.Lawful.{IsWithin};
 ghost use Rattle.dimacs_text.specs.declared.problem.TheConstants.{SUPPLY_LIMIT};
 ghost use Rattle.dimacs_text.specs.declared.problem.Kind.TheVariants.{Min};
 ghost use Rattle.network.specs.Flow.{IsPotential};

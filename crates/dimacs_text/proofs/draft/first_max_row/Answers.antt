@@ -1,6 +1,6 @@
 use Rattle.std.proofs.Common.{[], w64, arith, rules}
 use Rattle.std.proofs.lemmas.Int.{to_z_pos}
-use Rattle.dimacs_text.specs.Lawful.{IsNode}
+use Rattle.dimacs_lines.specs.Fields.{IsNode}
 use Rattle.dimacs_text.proofs.PlainLemmas.{max_said}
 use Rattle.dimacs_text.proofs.draft.first_max_row.Goals as goal
 

@@ -1,6 +1,7 @@
 use Rattle.std.proofs.Common.{[], w64, arith, rules}
 use Rattle.std.proofs.lemmas.Int.{to_z-of_z, to_z_pos}
-use Rattle.dimacs_text.specs.Lawful.{IsNode, IsWithin}
+use Rattle.dimacs_lines.specs.Fields.{IsNode}
+use Rattle.dimacs_text.specs.Lawful.{IsWithin}
 use Rattle.dimacs_text.specs.declared.problem.TheConstants.{COST_LIMIT}
 use Rattle.dimacs_text.proofs.PlainLemmas.{min_said}
 use Rattle.dimacs_text.proofs.draft.first_min_row.Goals as goal

@@ -1,5 +1,5 @@
 use Rattle.std.proofs.Common.{sym, ◌∙◌, rules}
-use Rattle.dimacs_text.specs.Lawful.{IsNode}
+use Rattle.dimacs_lines.specs.Fields.{IsNode}
 use Rattle.dimacs_text.proofs.PlainLemmas.{side_said}
 use Rattle.dimacs_text.proofs.draft.Draft.first_side.Goals as goal
 

@@ -1,6 +1,7 @@
 use Rattle.std.proofs.Common.{w64, sym, ◌∙◌, rules}
 use Rattle.std.proofs.lemmas.Int.{to_z-of_z}
-use Rattle.dimacs_text.specs.Lawful.{IsNode, IsWithin}
+use Rattle.dimacs_lines.specs.Fields.{IsNode}
+use Rattle.dimacs_text.specs.Lawful.{IsWithin}
 use Rattle.dimacs_text.specs.declared.problem.TheConstants.{SUPPLY_LIMIT}
 use Rattle.dimacs_text.proofs.PlainLemmas.{supply_said}
 use Rattle.dimacs_text.proofs.draft.Draft.first_supply.Goals as goal

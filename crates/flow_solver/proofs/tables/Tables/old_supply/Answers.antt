@@ -1,6 +1,6 @@
 use Rattle.std.proofs.Common.{◌≡◌, None, Some, subst}
 use Rattle.std.specs.Prelude.{IfSome}
-use Rattle.dimacs_text.specs.Lawful.{IsNode}
+use Rattle.dimacs_lines.specs.Fields.{IsNode}
 use Rattle.network.specs.Instance.{reduced_supply}
 use Rattle.flow_solver.specs.TablesView.{TablesView}
 use Rattle.flow_solver.proofs.LogLemmas.{nodes_before}

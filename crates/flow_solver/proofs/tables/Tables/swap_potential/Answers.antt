@@ -1,5 +1,5 @@
 use Rattle.std.proofs.Common.{◌≡◌, pos, refl, subst, sym}
-use Rattle.dimacs_text.specs.Lawful.{IsNode}
+use Rattle.dimacs_lines.specs.Fields.{IsNode}
 use Rattle.residual_graph.specs.Residual.{number_at}
 use Rattle.flow_solver.specs.TablesView.{TablesView}
 use Rattle.augmentation.proofs.NearLemmas.{step_noted}

@@ -1,6 +1,6 @@
 use Rattle.std.proofs.Common.{◌∙◌, ◌≡◌, ◌-◌, ℤ, ap, drop, length, refl, rules, slice_index_or, subst, sym, w64}
 use Rattle.std.proofs.lemmas.Int.{to_z-of_z}
-use Rattle.dimacs_text.specs.Lawful.{IsNode}
+use Rattle.dimacs_lines.specs.Fields.{IsNode}
 use Rattle.dimacs_text.specs.declared.problem.Kind.TheVariants.{Min}
 use Rattle.network.specs.Instance.{Instance, at_node, kind_of, reduced}
 use Rattle.flow_solver.specs.Balance.{IsBalanceOf}

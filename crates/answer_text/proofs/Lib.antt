@@ -1,0 +1,5 @@
+pub mod AnswerDecidedLemmas
+pub mod AnswerLemmas
+pub mod AnswerLineLemmas
+pub mod AnswerTakeLemmas
+pub mod SaidLemmas

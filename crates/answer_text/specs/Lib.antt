@@ -1,0 +1,3 @@
+pub mod AnswerFault
+pub mod Answer
+pub mod AnswerReader

@@ -1,5 +1,0 @@
-use Rattle.std.proofs.Common.{rules}
-use Rattle.dimacs_text.proofs.answer_fault.AnswerFault.number.Goals as goal
-
-pub returns-in-Line : goal.returns-in-Line
-returns-in-Line c = search rules
