@@ -7,11 +7,11 @@ use Rattle.residual_graph.specs.declared.residual.Way.{Way}
 use Rattle.residual_graph.specs.declared.residual.Way.TheVariants.{Backward, Forward}
 use Rattle.residual_graph.specs.declared.side.Side.{Side}
 use Rattle.residual_graph.specs.declared.side.Side.TheVariants.{Ahead, Behind}
-use Rattle.flow_changes.specs.Push.{left, part_above_0}
+use Rattle.flow_changes.specs.Push.{ArePushes, left, part_above_0}
 pub use Rattle.flow_changes.specs.Push.{lack}
 use Rattle.augmentation.specs.ScratchView.{ScratchView}
 use Rattle.residual_graph.specs.Graph.{GraphView}
-use Rattle.residual_graph.specs.Residual.{number_at, row_at, start_of, end_of, IsResidual}
+use Rattle.residual_graph.specs.Residual.{number_at, row_at, start_of, end_of, IsPseudoflow, IsResidual}
 use Rattle.residual_graph.specs.Side.{IsRoot}
 use Rattle.tracked.specs.Marks.{in_set}
 use Rattle.tracked.specs.Tracked.{TrackedView}
@@ -98,6 +98,25 @@ pub record IsParted (arcs : List ArcRow) (x e : List ℤ) : Type 0 where
   pub closed : IsClosed Ahead arcs x set
   pub holds : HoldsRoots Ahead e set
   pub no_deficit : HasNoDeficit e set
+
+-- the set is the side of the cut of flow x with excess e, in which no node in excess reaches one in deficit; what is left in excess,
+-- or else what is lacking, comes to the shortage
+pub record IsCutOf (arcs : List ArcRow) (x e : List ℤ) (shortage : ℕ) (set : List Bool) : Type 0 where
+  pub side : IsSideOfCut arcs x e set
+  pub parted : IsParted arcs x e
+  pub some : 0 < shortage
+  pub in_excess : 0 < left e → shortage ≡ left e
+  pub no_excess : left e ≡ 0 → shortage ≡ lack e
+
+-- pushes lead from flow x with excess e to a flow whose cut this is
+pub record IsShownBy (arcs : List ArcRow) (x e : List ℤ) (shortage : ℕ) (set : List Bool) : Type 0 where
+  pub flow : List ℤ
+  pub excess : List ℤ
+  pub count : ℕ
+  pub sized : length excess ≡ length e
+  pub within : IsPseudoflow (length e) arcs flow
+  pub pushes : ArePushes arcs count x e flow excess
+  pub cut : IsCutOf arcs flow excess shortage set
 
 -- no residual arc along arc k leads on out of the set
 abbrev pub IsClosedAlong : Side → List ArcRow → List ℤ → List Bool → ℕ → Type 0

@@ -22,6 +22,8 @@ pub struct Attempt {
     pub proposals: Proposals,
     pub wanted: Wanted,
     pub trial: Trial,
+    /// Whether a proposal was made that nobody tried yet.
+    is_at_hand: bool,
 }
 
 impl Attempt {
@@ -42,6 +44,7 @@ impl Attempt {
             proposals,
             wanted,
             trial,
+            is_at_hand: false,
         })
     }
 
@@ -60,6 +63,10 @@ impl Attempt {
         requires excess { length excess.now ≡ length potentials.now }
         ensures { IsAttemptFor (length potentials.now) self.new }
     {
+        if self.is_at_hand {
+            self.is_at_hand = false;
+            return;
+        }
         if self.proposals.is_fresh() {
             self.propose_from_afar(graph, flow, excess, potentials);
             return;
@@ -75,6 +82,32 @@ impl Attempt {
             aim_of(graph),
         );
         self.proposals.write(graph.rows(), flow, &mut self.wanted);
+    }
+
+    /// Makes the first proposal from afar, or, where it comes out early that no flow is legal, proposes a greatest flow, whatever
+    /// it costs, and says whether it is that. Another proposal is at hand from then on.
+    pub(crate) fn propose_or_part(
+        &mut self,
+        graph: &Graph,
+        flow: &[i64],
+        excess: &Excess,
+        potentials: &[i64],
+    ) -> bool
+        requires tables { IsAttemptFor (length potentials.now) self.old }
+        requires graph { HasEntries (length potentials.now) graph.now }
+        requires flow { IsPseudoflow (length potentials.now) graph.now.rows flow.now }
+        requires excess { length excess.now ≡ length potentials.now }
+        ensures { IsAttemptFor (length potentials.now) self.new }
+    {
+        if !self.proposals.is_fresh() || aim_of(graph) == Aim::GreatestFlow {
+            return false;
+        }
+        let is_parted = self
+            .proposals
+            .propose_or_part(graph.rows(), flow, excess.entries(), potentials);
+        self.proposals.write(graph.rows(), flow, &mut self.wanted);
+        self.is_at_hand = !is_parted;
+        is_parted
     }
 
     /// Brings the ends in step with a flow that was led to what is wanted.

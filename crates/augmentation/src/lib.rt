@@ -18,6 +18,7 @@ mod potentials;
 mod pushes;
 mod rounds;
 mod scratch;
+mod shown;
 mod side;
 mod trails;
 
@@ -29,3 +30,4 @@ pub use excess::Excess;
 pub use near::prepare;
 pub use rounds::finish;
 pub use scratch::Scratch;
+pub use shown::show_cut;

@@ -37,7 +37,7 @@ pub struct Scratch {
     pub(crate) tree: Tree,
     /// The nodes of a side, while a cut is looked for, and the arcs over which nodes were marked last.
     pub(crate) marked: Touched,
-    hops: Vec<u32>,
+    pub(crate) hops: Vec<u32>,
     pub(crate) attempt: Attempt,
 }
 

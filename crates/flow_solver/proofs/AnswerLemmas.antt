@@ -17,9 +17,9 @@ use Rattle.flow_solver.specs.declared.verdict.Verdict.{Verdict}
 use Rattle.flow_solver.specs.declared.verdict.Verdict.TheVariants.{Best, Infeasible}
 use Rattle.flow_changes.specs.Limits.{supply_limit}
 use Rattle.predecessors.specs.Limits.{label_floor}
-use Rattle.residual_graph.specs.Residual.{IsReducedCostOptimal, ArePotentials, number_at, row_at}
+use Rattle.residual_graph.specs.Residual.{IsPseudoflow, IsReducedCostOptimal, ArePotentials, number_at, row_at}
 use Rattle.flow_changes.specs.Push.{AreSmall, IsExcess, part_above_0, left, cap_total}
-use Rattle.augmentation.specs.Cut.{lack, IsParted, IsSideOfCut}
+use Rattle.augmentation.specs.Cut.{lack, IsParted, IsShownBy, IsSideOfCut}
 use Rattle.augmentation.proofs.CutLemmas.{lack-none, none_above}
 use Rattle.residual_graph.specs.declared.side.Side.TheVariants.{Ahead, Behind}
 use Rattle.tracked.specs.Marks.{in_set}
@@ -61,25 +61,21 @@ wrapped_small arcs supply x e is small v =
 pub exact_of_certified : (I : Instance) (rows : List ArcRow) (x e : List ℤ) (q : ℕ → ℤ) → IsLawful I → rows ≡ (reduced I).arcs → IsCertifiedFlow (reduced I) x q → IsWrappedExcess rows (held I.nodes (reduced I).supply) x e → IsExactExcess rows (held I.nodes (reduced I).supply) x e
 exact_of_certified I rows x e q lawful same certified is = excess_exact I rows x e lawful same (rw same certified.bounds) is
 
--- ---- the end of all searches
+-- ---- a flow in which no node in excess reaches one in deficit
 
--- what stands in the tables when no search finds a node in deficit any more
-pub record IsEnd (I : Instance) (y p e : List ℤ) (set : List Bool) : Type 0 where
+-- flow y leaves the excess e, no node in excess reaches one in deficit, and the set is the side of its cut
+pub record IsParting (I : Instance) (y e : List ℤ) (set : List Bool) : Type 0 where
   pub lawful : IsLawful I
-  pub potentials_in : ArePotentials (length p) label_floor p
   pub excess_in : length e ≡ I.nodes + 1
-  pub cut_in : length set ≡ I.nodes + 1
-  pub certified : IsReducedCostOptimal (reduced I).arcs y p
+  pub size : ℕ
+  pub flow : IsPseudoflow size (reduced I).arcs y
   pub excess_is : IsExcess (reduced I).arcs (held I.nodes (reduced I).supply) y e
   pub side : IsSideOfCut (reduced I).arcs y e set
   pub parted : IsParted (reduced I).arcs y e
 
-module _ (I : Instance) (y p e : List ℤ) (set : List Bool) (end : IsEnd I y p e set) where
+module _ (I : Instance) (y e : List ℤ) (set : List Bool) (end : IsParting I y e set) where
   bounds : AllWithinBounds (reduced I).arcs y
-  bounds = bounds_of end.certified.flow
-
-  pub end_certified : IsCertifiedFlow (reduced I) y (at_node (drop 1 p))
-  end_certified = certified_of I y p end.lawful end.certified end.potentials_in
+  bounds = bounds_of end.flow
 
   marks : (v : ℕ) → (1 ≤ v) × (v ≤ I.nodes) → is_marked (drop 1 set) v ≡ in_set set v
   marks v node = node_entry set v false node.0
@@ -117,22 +113,11 @@ module _ (I : Instance) (y p e : List ℤ) (set : List Bool) (end : IsEnd I y p 
   infeasible : (d : ℤ) → IsBreach I (is_marked (drop 1 set)) d → IsInfeasibleMoment I (is_marked (drop 1 set)) d
   infeasible d breach = record { none_legal = breach_rules_out I (is_marked (drop 1 set)) d end.lawful breach; breach = breach }
 
-  excess_verdict : 0 < left e → IsInfeasibleMoment I (is_marked (drop 1 set)) (pos (left e))
+  pub excess_verdict : 0 < left e → IsInfeasibleMoment I (is_marked (drop 1 set)) (pos (left e))
   excess_verdict some = infeasible (pos (left e)) (record { positive = omega (arith, ints, some); value = inl (sym (cut_of_excess some).value) })
 
-  deficit_verdict : left e ≡ 0 → 0 < lack e → IsInfeasibleMoment I (is_marked (drop 1 set)) (pos (lack e))
+  pub deficit_verdict : left e ≡ 0 → 0 < lack e → IsInfeasibleMoment I (is_marked (drop 1 set)) (pos (lack e))
   deficit_verdict none some = infeasible (pos (lack e)) (record { positive = omega (arith, ints, some); value = inr (sym (cut_of_deficit none some).value) })
-
-  best_verdict : left e ≡ 0 → lack e ≡ 0 → IsBestMoment I y (is_marked (drop 1 set)) (reduced_worth I.demand (reduced I).arcs y)
-  best_verdict none no_lack =
-      let legal = from_reduced I y end.lawful (legal_flow (reduced I) y e end.excess_is bounds none no_lack) in
-      let certified : IsCertified I (numbered_flow I.demand y) (at_node (drop 1 p)) = subst (λ (z : List ℤ). IsCertifiedFlow (reduced I) z (at_node (drop 1 p))) legal.1 end_certified in
-      record {
-        reduced_is = legal.1;
-        best = certified_is_best I (numbered_flow I.demand y) (at_node (drop 1 p)) end.lawful legal.0 certified;
-        worth_is = worth_is I.nodes I.demand I.arcs I.room y legal.1;
-        none_marked = none_marked set (none_in_cut none no_lack);
-      }
 
   -- no set has a surplus where nothing lies in excess
   surplus_none : left e ≡ 0 → (other : ℕ → Bool) → surplus_of (reduced I) other ≤ℤ pos 0
@@ -141,33 +126,17 @@ module _ (I : Instance) (y p e : List ℤ) (set : List Bool) (end : IsEnd I y p 
       let most = value_most Ahead (reduced I) y other ends bounds in
       omega (arith, ints, all, most, none)
 
-  excess_chosen : 0 < left e → IsChosenBreach (reduced I) (is_marked (drop 1 set)) (pos (left e))
+  pub excess_chosen : 0 < left e → IsChosenBreach (reduced I) (is_marked (drop 1 set)) (pos (left e))
   excess_chosen some = record {
     surplus = λ other above. cut_of_excess some;
     shortfall = λ none. absurd (omega (arith, ints, some, none (is_marked (drop 1 set)), (cut_of_excess some).value));
   }
 
-  deficit_chosen : left e ≡ 0 → 0 < lack e → IsChosenBreach (reduced I) (is_marked (drop 1 set)) (pos (lack e))
+  pub deficit_chosen : left e ≡ 0 → 0 < lack e → IsChosenBreach (reduced I) (is_marked (drop 1 set)) (pos (lack e))
   deficit_chosen none some = record {
     surplus = λ other above. absurd (omega (arith, ints, above, surplus_none none other));
     shortfall = λ all. cut_of_deficit none some;
   }
-
-  module _ (verdict : Verdict) (judged : IsJudged (reduced_worth I.demand (reduced I).arcs y) e verdict) where
-    by_sums : (P : Verdict → Type 0) → (0 < left e → P (Infeasible (pos (left e)))) → (left e ≡ 0 → 0 < lack e → P (Infeasible (pos (lack e)))) → (left e ≡ 0 → lack e ≡ 0 → P (Best (reduced_worth I.demand (reduced I).arcs y))) → P verdict
-    by_sums P excess deficit neither = elim (cases_lt 0 (left e)) [
-      | inl some ↦ subst P (sym (judged.in_excess some)) (excess some)
-      | inr le ↦ (let none : left e ≡ 0 = omega arith in elim (cases_lt 0 (lack e)) [
-        | inl some ↦ subst P (sym (judged.in_deficit none some)) (deficit none some)
-        | inr le2 ↦ (let no_lack : lack e ≡ 0 = omega arith in subst P (sym (judged.in_neither none no_lack)) (neither none no_lack))
-      ])
-    ]
-
-    pub end_verdict : IsVerdict verdict I y (is_marked (drop 1 set))
-    end_verdict = by_sums (λ (v : Verdict). IsVerdict v I y (is_marked (drop 1 set))) excess_verdict deficit_verdict best_verdict
-
-    pub end_chosen : IsChosenCut verdict (reduced I) (is_marked (drop 1 set))
-    end_chosen = by_sums (λ (v : Verdict). IsChosenCut v (reduced I) (is_marked (drop 1 set))) excess_chosen deficit_chosen (λ none no_lack. tt)
 
 -- ---- the shortage fits its type
 
@@ -193,12 +162,12 @@ picked_between picks (a ∷ arcs) rows =
     let here = part_between (picks a) a.low a.cap (rows 0 (omega arith)).0 (rows 0 (omega arith)).1 in
     (omega (arith, ints, rest.0, here.0), omega (arith, ints, rest.1, here.1, sum_by-cons (λ (b : ArcRow). part_above_0 b.cap) a arcs))
 
-module _ (I : Instance) (y p e : List ℤ) (set : List Bool) (end : IsEnd I y p e set) where
+module _ (I : Instance) (y e : List ℤ) (set : List Bool) (end : IsParting I y e set) where
   abbrev cut : ℕ → Bool
   cut = is_marked (drop 1 set)
 
   rows_end : AreRows (reduced I).arcs
-  rows_end k lt = (let row = end.certified.flow.rows k lt in (row.low_at_least_0, row.low_at_most_cap))
+  rows_end k lt = (let row = end.flow.rows k lt in (row.low_at_least_0, row.low_at_most_cap))
 
   supply_in : (neg_ℤ (pos (supply_limit * I.nodes)) ≤ℤ supply_of (reduced I) cut) × (supply_of (reduced I) cut ≤ℤ pos (supply_limit * I.nodes))
   supply_in = supply_within I.nodes cut (reduced I).supply (supply_of_instance I end.lawful)
@@ -209,17 +178,108 @@ module _ (I : Instance) (y p e : List ℤ) (set : List Bool) (end : IsEnd I y p 
   most_into : (pos 0 ≤ℤ cap_into (reduced I) cut) × (low_into (reduced I) cut ≤ℤ pos (cap_total (reduced I).arcs))
   most_into = picked_between (crosses (outside cut) cut) (reduced I).arcs rows_end
 
-  pub left_fits : left e < 9223372036854775808
-  left_fits = elim (cases_lt 0 (left e)) [
-    | inl some ↦ omega (arith, ints, (cut_of_excess I y p e set end some).value, supply_in.1, most_out.0, most_into.1, caps_of_instance I end.lawful, end.lawful.nodes.1)
+  pub excess_fits : left e < 9223372036854775808
+  excess_fits = elim (cases_lt 0 (left e)) [
+    | inl some ↦ omega (arith, ints, (cut_of_excess I y e set end some).value, supply_in.1, most_out.0, most_into.1, caps_of_instance I end.lawful, end.lawful.nodes.1)
     | inr le ↦ omega arith
   ]
 
-  pub lack_fits : left e ≡ 0 → lack e < 9223372036854775808
-  lack_fits none = elim (cases_lt 0 (lack e)) [
-    | inl some ↦ omega (arith, ints, (cut_of_deficit I y p e set end none some).value, supply_in.0, most_out.1, most_into.0, caps_of_instance I end.lawful, end.lawful.nodes.1)
+  pub deficit_fits : left e ≡ 0 → lack e < 9223372036854775808
+  deficit_fits none = elim (cases_lt 0 (lack e)) [
+    | inl some ↦ omega (arith, ints, (cut_of_deficit I y e set end none some).value, supply_in.0, most_out.1, most_into.0, caps_of_instance I end.lawful, end.lawful.nodes.1)
     | inr le ↦ omega arith
   ]
+
+-- ---- a flow to which pushes lead shows the cut
+
+module _ (I : Instance) (x e : List ℤ) (shortage : ℕ) (set : List Bool) (lawful : IsLawful I) (sized : length e ≡ I.nodes + 1)
+    (is : IsExcess (reduced I).arcs (held I.nodes (reduced I).supply) x e) (shown : IsShownBy (reduced I).arcs x e shortage set) where
+  shown_parting : IsParting I shown.flow shown.excess set
+  shown_parting = record {
+    lawful = lawful;
+    excess_in = shown.sized ∙ sized;
+    size = length e;
+    flow = shown.within;
+    excess_is = shown.pushes.excess (held I.nodes (reduced I).supply) is;
+    side = shown.cut.side;
+    parted = shown.cut.parted;
+  }
+
+  by_left : (P : ℕ → Type 0) → (0 < left shown.excess → P (left shown.excess)) → (left shown.excess ≡ 0 → 0 < lack shown.excess → P (lack shown.excess)) → P shortage
+  by_left P excess deficit = elim (cases_lt 0 (left shown.excess)) [
+    | inl some ↦ subst P (sym (shown.cut.in_excess some)) (excess some)
+    | inr le ↦ (let none : left shown.excess ≡ 0 = omega arith in subst P (sym (shown.cut.no_excess none)) (deficit none (omega (arith, shown.cut.some, shown.cut.no_excess none))))
+  ]
+
+  pub shown_verdict : IsInfeasibleMoment I (is_marked (drop 1 set)) (pos shortage)
+  shown_verdict = by_left (λ (d : ℕ). IsInfeasibleMoment I (is_marked (drop 1 set)) (pos d)) (excess_verdict I shown.flow shown.excess set shown_parting) (deficit_verdict I shown.flow shown.excess set shown_parting)
+
+  pub shown_chosen : IsChosenBreach (reduced I) (is_marked (drop 1 set)) (pos shortage)
+  shown_chosen = by_left (λ (d : ℕ). IsChosenBreach (reduced I) (is_marked (drop 1 set)) (pos d)) (excess_chosen I shown.flow shown.excess set shown_parting) (deficit_chosen I shown.flow shown.excess set shown_parting)
+
+  pub shown_fits : shortage < 9223372036854775808
+  shown_fits = by_left (λ (d : ℕ). d < 9223372036854775808) (λ some. excess_fits I shown.flow shown.excess set shown_parting) (λ none some. deficit_fits I shown.flow shown.excess set shown_parting none)
+
+-- ---- the end of all searches
+
+-- what stands in the tables when no search finds a node in deficit any more
+pub record IsEnd (I : Instance) (y p e : List ℤ) (set : List Bool) : Type 0 where
+  pub lawful : IsLawful I
+  pub potentials_in : ArePotentials (length p) label_floor p
+  pub excess_in : length e ≡ I.nodes + 1
+  pub cut_in : length set ≡ I.nodes + 1
+  pub certified : IsReducedCostOptimal (reduced I).arcs y p
+  pub excess_is : IsExcess (reduced I).arcs (held I.nodes (reduced I).supply) y e
+  pub side : IsSideOfCut (reduced I).arcs y e set
+  pub parted : IsParted (reduced I).arcs y e
+
+module _ (I : Instance) (y p e : List ℤ) (set : List Bool) (end : IsEnd I y p e set) where
+  parting : IsParting I y e set
+  parting = record {
+    lawful = end.lawful;
+    excess_in = end.excess_in;
+    size = length p;
+    flow = end.certified.flow;
+    excess_is = end.excess_is;
+    side = end.side;
+    parted = end.parted;
+  }
+
+  pub end_certified : IsCertifiedFlow (reduced I) y (at_node (drop 1 p))
+  end_certified = certified_of I y p end.lawful end.certified end.potentials_in
+
+  best_verdict : left e ≡ 0 → lack e ≡ 0 → IsBestMoment I y (is_marked (drop 1 set)) (reduced_worth I.demand (reduced I).arcs y)
+  best_verdict none no_lack =
+      let legal = from_reduced I y end.lawful (legal_flow (reduced I) y e end.excess_is (bounds I y e set parting) none no_lack) in
+      let certified : IsCertified I (numbered_flow I.demand y) (at_node (drop 1 p)) = subst (λ (z : List ℤ). IsCertifiedFlow (reduced I) z (at_node (drop 1 p))) legal.1 end_certified in
+      record {
+        reduced_is = legal.1;
+        best = certified_is_best I (numbered_flow I.demand y) (at_node (drop 1 p)) end.lawful legal.0 certified;
+        worth_is = worth_is I.nodes I.demand I.arcs I.room y legal.1;
+        none_marked = none_marked set (none_in_cut I y e set parting none no_lack);
+      }
+
+  module _ (verdict : Verdict) (judged : IsJudged (reduced_worth I.demand (reduced I).arcs y) e verdict) where
+    by_sums : (P : Verdict → Type 0) → (0 < left e → P (Infeasible (pos (left e)))) → (left e ≡ 0 → 0 < lack e → P (Infeasible (pos (lack e)))) → (left e ≡ 0 → lack e ≡ 0 → P (Best (reduced_worth I.demand (reduced I).arcs y))) → P verdict
+    by_sums P excess deficit neither = elim (cases_lt 0 (left e)) [
+      | inl some ↦ subst P (sym (judged.in_excess some)) (excess some)
+      | inr le ↦ (let none : left e ≡ 0 = omega arith in elim (cases_lt 0 (lack e)) [
+        | inl some ↦ subst P (sym (judged.in_deficit none some)) (deficit none some)
+        | inr le2 ↦ (let no_lack : lack e ≡ 0 = omega arith in subst P (sym (judged.in_neither none no_lack)) (neither none no_lack))
+      ])
+    ]
+
+    pub end_verdict : IsVerdict verdict I y (is_marked (drop 1 set))
+    end_verdict = by_sums (λ (v : Verdict). IsVerdict v I y (is_marked (drop 1 set))) (excess_verdict I y e set parting) (deficit_verdict I y e set parting) best_verdict
+
+    pub end_chosen : IsChosenCut verdict (reduced I) (is_marked (drop 1 set))
+    end_chosen = by_sums (λ (v : Verdict). IsChosenCut v (reduced I) (is_marked (drop 1 set))) (excess_chosen I y e set parting) (deficit_chosen I y e set parting) (λ none no_lack. tt)
+
+  pub left_fits : left e < 9223372036854775808
+  left_fits = excess_fits I y e set parting
+
+  pub lack_fits : left e ≡ 0 → lack e < 9223372036854775808
+  lack_fits = deficit_fits I y e set parting
 
 -- ---- what an answered moment tells of its flows
 

@@ -1,5 +1,5 @@
 -- Certified flows: where potentials in a table, with an entry for no node in front, are those of the nodes.
-use Rattle.std.proofs.Common.{◌≡◌, ℕ, zero, suc, ◌+◌, ◌-◌, ◌≤◌, ℤ, pos, List, length, slice_index_or, drop, refl, sym, ap, subst, ◌∙◌, inl, inr, arith}
+use Rattle.std.proofs.Common.{◌≡◌, ℕ, zero, suc, ◌+◌, ◌-◌, ◌<◌, ◌≤◌, ℤ, pos, ◌≤ℤ◌, List, length, slice_index_or, drop, refl, sym, ap, subst, ◌∙◌, inl, inr, arith}
 use Rattle.std.proofs.lemmas.Int.{ints}
 use Rattle.std.proofs.lemmas.Bool.{cases_lt}
 use Rattle.std.proofs.lemmas.Grind.{get_or_after_one}
@@ -49,6 +49,12 @@ module _ (I : Instance) (x p : List ℤ) (lawful : IsLawful I) where
         signs = signs_of (number_at p) (reduced I).arcs x (bounds_of optimal.flow) optimal.none_below;
         range = λ v node. (omega (arith, ints, potentials.at_least v), potentials.at_most_0 v);
       })
+
+-- potentials of which none is below 0 are the greatest
+pub greatest_at_0 : (I : Instance) (x p : List ℤ) → length p ≡ I.nodes + 1 → ((v : ℕ) → v < length p → pos 0 ≤ℤ number_at p v) → IsGreatestPotential (reduced I) x (at_node (drop 1 p))
+greatest_at_0 I x p sized none_below = record {
+  none_above = λ other certified v node. omega (arith, ints, (certified.range v node).1, none_below v (omega (arith, sized, node.1)), at_entry p v node.0);
+}
 
 pub greatest_of : (I : Instance) (rows : List ArcRow) (x p : List ℤ) → AreRowsOf I rows → AreGreatest rows x p → IsGreatestPotential (reduced I) x (at_node (drop 1 p))
 greatest_of I rows x p of greatest = record {

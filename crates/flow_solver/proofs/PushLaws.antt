@@ -1,11 +1,11 @@
 -- Pushes and excesses in tables, in the words of minimum-cost flows.
-use Rattle.std.proofs.Common.{◌≡◌, ℕ, zero, suc, ℤ, pos, negsuc, neg_ℤ, ◌+ℤ◌, ◌-ℤ◌, List, [], ◌∷◌, length, refl, ap, ◌∙◌, inl, inr, arith}
+use Rattle.std.proofs.Common.{◌≡◌, ℕ, zero, suc, ℤ, pos, negsuc, neg_ℤ, ◌+ℤ◌, ◌-ℤ◌, ◌≤ℤ◌, List, [], ◌∷◌, length, refl, ap, ◌∙◌, inl, inr, arith}
 use Rattle.std.specs.List.{sum_by}
 use Rattle.std.proofs.lemmas.Int.{ints}
 use Rattle.std.proofs.lemmas.List.Sums.{sum_by-cons}
 use Rattle.dimacs_text.specs.declared.problem.ArcRow.{ArcRow}
 use Rattle.network.specs.Flow.{MinCost, IsNode, AllEndsAreNodes, IsLegalFlow, AllWithinBounds, nodes_sum, net, excess, positive_part, total_excess}
-use Rattle.network.proofs.Sums.{nodes_sum-same}
+use Rattle.network.proofs.Sums.{nodes_sum-le, nodes_sum-same, nodes_sum-zero}
 use Rattle.residual_graph.specs.Residual.{number_at}
 use Rattle.residual_graph.specs.declared.side.Side.{Side}
 use Rattle.residual_graph.specs.declared.side.Side.TheVariants.{Ahead, Behind}
@@ -77,3 +77,8 @@ amount_is side I x (z ∷ e) ends is sized =
 
 pub left_is : (I : MinCost) (x e : List ℤ) → AllEndsAreNodes I → IsExcess I.arcs (held I.nodes I.supply) x e → length e ≡ suc I.nodes → pos (left e) ≡ total_excess I x
 left_is = amount_is Ahead
+
+pub left_at_least_0 : (I : MinCost) (x : List ℤ) → pos 0 ≤ℤ total_excess I x
+left_at_least_0 I x =
+    let all = nodes_sum-le I.nodes (λ v. pos 0) (λ v. positive_part (excess I x v)) (λ v node. omega (arith, ints, part_is (excess I x v))) in
+    omega (arith, ints, all, nodes_sum-zero I.nodes)

@@ -11,7 +11,7 @@ use relaxation::{Proposal, REST_LIMIT, seen};
 const PLENTY: i64 = REST_LIMIT / 2;
 
 /// Searches as for a greatest flow that leave the sides together.
-pub(crate) const TOGETHER: Fuel = Fuel {
+const TOGETHER: Fuel = Fuel {
     apart: 0,
     ..Fuel::GREATEST
 };
@@ -29,6 +29,16 @@ const SOME_PAIRS: usize = 1;
 /// Where the sink is further away, a greatest flow is looked for in stages: each push goes a long way, so few large ones
 /// are quicker, though more searches are made. At 530 it took three fifths of the time, at 347 and below nothing was gained.
 const MANY_LEVELS: u32 = 400;
+
+/// Makes a flow a greatest one: where its arcs cost nothing, that takes few searches.
+pub(crate) fn make_greatest(proposal: &mut Proposal, search: &mut Search)
+    requires { search.old ≡ proposal.old }
+    ensures proposal { proposal.new ≡ proposal.old }
+    ensures search { search.new ≡ search.old }
+{
+    proposal.level();
+    let _done = take_turns(proposal, search, &mut Goals::ALL, MOST_PAIRS, TOGETHER);
+}
 
 /// Brings a flow that has no return arc to a greatest one. The return arc is held to carry so much more than it does: that lies
 /// at the source, and is lacking at the sink, and what cannot pass stays there. First what other nodes have too much goes where

@@ -2,13 +2,12 @@
 
 ghost use Rattle.std.specs.Prelude.{◌≡◌, ◌<◌, length};
 
-use crate::greatest::TOGETHER;
+use crate::greatest::make_greatest;
 use crate::search::Search;
-use crate::solving::{Goals, MOST_PAIRS, take_turns};
 use crate::tables::arc_of;
 use containers::State;
 use dimacs_text::ArcRow;
-use relaxation::Proposal;
+use relaxation::{Proposal, seen};
 use residual_ends::Arc;
 
 /// The network is parted where a greatest flow leaves something at so many nodes, or at one in so many of a small network: plans
@@ -68,8 +67,7 @@ pub fn mark_sides(proposal: &mut Proposal, search: &mut Search, least_left: usiz
     ensures proposal { proposal.new ≡ proposal.old }
     ensures search { search.new ≡ search.old }
 {
-    proposal.level();
-    let _done = take_turns(proposal, search, &mut Goals::ALL, MOST_PAIRS, TOGETHER);
+    make_greatest(proposal, search);
     if proposal.nodes_to_serve() < least_left {
         return;
     }
@@ -146,4 +144,29 @@ pub fn join(proposal: &mut Proposal, rows: &[ArcRow])
         }
     }
     proposal.sides.clear();
+}
+
+impl Search {
+    /// Looks whether all that was settled has more, as a side sees it, than can leave it: then no flow is legal. It does so where
+    /// this was asked for, and in stages: there a search often settles all that it comes to over arcs of much room, and so what
+    /// lies before the arcs that hold up the flow. At the end of all stages nothing would be spared any more.
+    pub(crate) fn look_for_surplus<const AHEAD: bool>(&mut self, proposal: &Proposal)
+        requires { proposal.now ≡ self.old }
+        ensures { self.new ≡ self.old }
+    {
+        if !self.looks_for_surplus || proposal.least < 2 {
+            return;
+        }
+        let mut surplus: i64 = 0;
+        for v in self.frontier.settled().listed() {
+            let v = *v as usize;
+            surplus = surplus.saturating_add(seen::<AHEAD>(proposal.rest(v)));
+            for link in proposal.ends().at(v).links {
+                if self.frontier.state(link.other as usize) != State::Settled {
+                    surplus = surplus.saturating_sub(link.room::<AHEAD>());
+                }
+            }
+        }
+        self.has_surplus = surplus > 0;
+    }
 }

@@ -32,6 +32,9 @@ pub fn scale(proposal: &mut Proposal, search: &mut Search, fuel: Fuel)
         }
         begin_stage(proposal, least);
         let _done = take_turns(proposal, search, &mut Goals::ALL, MOST_PAIRS, fuel);
+        if search.has_surplus {
+            break;
+        }
         least /= fuel.narrowing;
     }
     begin_stage(proposal, 1);

@@ -57,6 +57,9 @@ pub struct Search {
     pub(crate) looks: u64,
     /// How many pushes were made after the last search.
     pub(crate) pushes: usize,
+    /// Whether sets of nodes are looked for that have more than can leave them, and whether one was found.
+    pub(crate) looks_for_surplus: bool,
+    pub(crate) has_surplus: bool,
 }
 
 impl Model for Search {
@@ -112,6 +115,8 @@ impl Search {
             ascended: false,
             looks: 0,
             pushes: 0,
+            looks_for_surplus: false,
+            has_surplus: false,
         })
     }
 
@@ -166,6 +171,9 @@ impl Search {
                     break;
                 }
             }
+        }
+        if self.got < self.goals.max(1) {
+            self.look_for_surplus::<AHEAD>(proposal);
         }
         self.settled_nodes = self.settled_nodes.saturating_add(self.width() as u64);
         if self.got > 0 { Some(self.last) } else { None }

@@ -2,7 +2,7 @@
 
 ghost use Rattle.std.specs.Prelude.{◌≡◌, ◌<◌, ◌^◌, ◌*◌, IfOk, length};
 
-use crate::greatest::solve_from;
+use crate::greatest::{make_greatest, solve_from};
 use crate::parted::{close_cut, least_left, mark_sides};
 use crate::search::Search;
 use crate::solving::solve;
@@ -149,6 +149,33 @@ impl Proposals {
         self.search.ascended = false;
         self.solve(rows, flow, excess, aim);
         self.search.may_ascend = self.search.ascended;
+    }
+
+    /// Leads a flow on to one of least cost as `propose` does, or, where it comes out early that no flow is legal, the same flow
+    /// to a greatest one, as if no arc cost anything: that takes a tenth of the time, and tells the cut. Says whether it is that.
+    pub fn propose_or_part(
+        &mut self,
+        rows: &[ArcRow],
+        flow: &[i64],
+        excess: &[i64],
+        potentials: &[i64],
+    ) -> bool
+        requires flow { length flow.now ≡ length rows.now }
+        requires excess { length excess.now ≡ self.old }
+        requires potentials { length potentials.now ≡ self.old }
+        ensures { self.new ≡ self.old }
+    {
+        self.search.looks_for_surplus = true;
+        self.propose(rows, flow, excess, potentials, Aim::LeastCost);
+        self.search.looks_for_surplus = false;
+        if !self.search.has_surplus {
+            return false;
+        }
+        self.search.has_surplus = false;
+        self.proposal.load_nodes(excess, potentials);
+        load_arcs::<true>(&mut self.proposal.ends, rows, flow);
+        make_greatest(&mut self.proposal, &mut self.search);
+        true
     }
 
     /// Leads the proposal on towards the aim, and looks at all nodes for that.

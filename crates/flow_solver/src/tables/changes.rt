@@ -15,15 +15,68 @@ use crate::answer::judge;
 use crate::balance::{carry_back, cost_now};
 use crate::edit::{added_row, arc_of, edited_row, edited_supply, nearest};
 use crate::part::{Part, part_of};
+use crate::potentials::are_none_below_0;
 use crate::settle::push_and_raise;
 use crate::verdict::Verdict;
-use augmentation::{mark_cut, prepare};
+use augmentation::{mark_cut, prepare, show_cut};
 use dimacs_text::{ArcRow, Edit, GROUP_LIMIT};
 use network::reduced_by;
 
 impl Tables {
     /// Makes the flow a best one, or marks the cut that shows why no flow is legal, and gives the number of pushes.
     pub fn settle(&mut self) -> u64
+        requires { IsCertifiedMoment self.old.moment }
+        ensures instance { self.new.moment.instance ≡ self.old.moment.instance }
+        ensures answered { IsAnswered self.new.moment }
+        ensures pushes { PushesTo result self.old.moment self.new.moment }
+        ensures count { pos result ≤ℤ left_in self.old.moment }
+        ensures before { self.new.before ≡ None }
+        ensures kept { self.new.kept ≡ self.old.kept }
+    {
+        if self.show_cut() {
+            return 0;
+        }
+        self.push_and_judge()
+    }
+
+    /// Looks for the cut alone, where no arc can be added, as in a plain solve, and nothing was solved yet. Says whether it came
+    /// out early that no flow is legal: then the cut is marked, and the flow stays as it was, since no edit is likely to go on
+    /// from it.
+    fn show_cut(&mut self) -> bool
+        requires { IsCertifiedMoment self.old.moment }
+        ensures instance { self.new.moment.instance ≡ self.old.moment.instance }
+        ensures flow { self.new.moment.flow ≡ self.old.moment.flow }
+        ensures potentials { self.new.moment.potentials ≡ self.old.moment.potentials }
+        ensures kept { self.new.kept ≡ self.old.kept }
+        ensures answered { IsTrue result → IsAnswered self.new.moment }
+        ensures before { self.new.before ≡ None }
+    {
+        self.before.verdict = None;
+        let potentials = self.potentials.table.entries();
+        if self.graph.network().room() as usize > self.graph.rows().len()
+            || !are_none_below_0(potentials)
+        {
+            return false;
+        }
+        let shown = show_cut(
+            &self.graph,
+            &mut self.flow,
+            potentials,
+            &mut self.balance.excess,
+            &mut self.scratch,
+            &mut self.cut,
+        );
+        match shown {
+            Some(shortage) => {
+                self.verdict = Verdict::Infeasible(shortage as i64);
+                true
+            }
+            None => false,
+        }
+    }
+
+    /// Makes all pushes, and judges by what is left.
+    fn push_and_judge(&mut self) -> u64
         requires { IsCertifiedMoment self.old.moment }
         ensures instance { self.new.moment.instance ≡ self.old.moment.instance }
         ensures answered { IsAnswered self.new.moment }
