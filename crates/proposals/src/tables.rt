@@ -66,6 +66,8 @@ pub struct Proposals {
     keeps_nodes: bool,
     /// How often the last searches from afar settled each node.
     settled: u64,
+    /// What the last proposal from afar was to reach.
+    aim: Aim,
 }
 
 impl Model for Proposals {
@@ -110,6 +112,7 @@ impl Proposals {
             returned: None,
             keeps_nodes: false,
             settled: 0,
+            aim: Aim::LeastCost,
         })
     }
 
@@ -142,6 +145,7 @@ impl Proposals {
         ensures { self.new ≡ self.old }
     {
         self.standing = Standing::Apart;
+        self.aim = aim;
         self.proposal.load_nodes(excess, potentials);
         load_arcs::<false>(&mut self.proposal.ends, rows, flow);
         self.returned = None;
@@ -417,7 +421,7 @@ impl Proposals {
     {
         let entries = self.entries();
         self.between.load(entries);
-        self.proposal.ends.put_in_order();
+        self.proposal.ends.put_in_order(self.aim == Aim::LeastCost);
     }
 
     /// Notes that a node may have got another potential.

@@ -19,6 +19,8 @@ pub struct ResidualEnds {
     pub(crate) links: Vec<Link>,
     /// Where the parts of each node's ends stop, once the ends are in order: its room is touched only then.
     pub(crate) borders: Vec<Borders>,
+    /// Whether the ends with room to leave a node alone are a part of their own.
+    pub(crate) by_side: bool,
     /// The number of the end at each place: 2k is the tail of arc k, and 2k + 1 its head.
     pub(crate) numbers: Vec<u32>,
     /// The place of the tail of each arc.
@@ -71,6 +73,7 @@ impl ResidualEnds {
             spans,
             links,
             borders,
+            by_side: false,
             numbers,
             tails,
             entered: 0,
