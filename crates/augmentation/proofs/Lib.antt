@@ -1,7 +1,6 @@
 pub mod PathLemmas
 pub mod SettleLemmas
 pub mod CutLemmas
-pub mod ExcessLemmas
 pub mod NodeLemmas
 pub mod CertificateLemmas
 pub mod HeldLemmas

@@ -1,11 +1,8 @@
 -- What one search, one change of potentials and one push keep.
-use Rattle.residual_graph.specs.Limits.{entry_limit}
-use Rattle.flow_changes.specs.Limits.{left_limit, excess_limit}
-use Rattle.std.proofs.Common.{◌≡◌, ℕ, zero, suc, ◌+◌, ◌<◌, ◌≤◌, ℤ, pos, negsuc, neg_ℤ, ◌≤ℤ◌, List, [], length, refl, sym, subst, arith}
-use Rattle.std.specs.Prelude.{◌<ℤ◌, Bool, false, slice_index_or, true}
+use Rattle.flow_changes.specs.Limits.{left_limit}
+use Rattle.std.proofs.Common.{◌≡◌, ℕ, ◌+◌, ◌<◌, ◌≤◌, ℤ, pos, List, [], length, refl, sym, subst, arith}
+use Rattle.std.specs.Prelude.{◌<ℤ◌, Bool, false, true}
 use Rattle.std.proofs.lemmas.Int.{ints}
-use Rattle.std.proofs.lemmas.List.{get_or_default}
-use Rattle.std.proofs.lemmas.List.Sums.{sum_by-le}
 use Rattle.dimacs_text.specs.declared.problem.ArcRow.{ArcRow}
 use Rattle.predecessors.specs.declared.predecessor.Predecessor.{Predecessor}
 use Rattle.residual_graph.specs.Graph.{GraphView}
@@ -13,33 +10,17 @@ use Rattle.residual_graph.specs.Residual.{IsReducedCostOptimal, NoneBelow, numbe
 use Rattle.predecessors.specs.Predecessor.{rank_at}
 use Rattle.shortest_paths.specs.Search.{HasFound, IsForest, IsReached}
 use Rattle.shortest_paths.proofs.StepLemmas.{forest_of}
-use Rattle.flow_changes.specs.Push.{IsTight, IsTightArc, ArePushes, AreSmall, one_if, part_above_0, left, lack}
+use Rattle.flow_changes.specs.Push.{IsTight, IsTightArc, ArePushes, AreSmall, one_if}
 use Rattle.augmentation.specs.Path.{before, hop_to, path_to, root_to, IsAugmented}
 use Rattle.augmentation.specs.Pseudoflow.{IsCertifiedIn, IsCertifiedPseudoflow}
 use Rattle.augmentation.specs.Pushes.{HavePushed}
 use Rattle.augmentation.specs.ScratchView.{ScratchView}
 use Rattle.tracked.specs.Tracked.{TrackedView}
 use Rattle.tracked.proofs.TrackedLemmas.{IsWritten-same, IsWritten-trans}
+use Rattle.cuts.proofs.ExcessLemmas.{left-small}
 use Rattle.augmentation.proofs.PathLemmas.{IsOnward, hops_tight, path_onward, root_depth}
 use Rattle.flow_changes.proofs.PushesLemmas.{ArePushes-more, ArePushes-none, IsMoving, IsRoom, moving_after, one_push}
 use Rattle.flow_changes.proofs.PushLemmas.{NoneBelow-along}
-
-pub left-small : (nodes : ℕ) (e : List ℤ) → AreSmall e → length e ≡ nodes → nodes ≤ entry_limit → left e ≤ left_limit
-left-small nodes e small sized few =
-    omega (arith, sum_by-le part_above_0 excess_limit e (λ k d lt. part_small (slice_index_or e k d) (rw (get_or_default e k d (pos 0) lt) (small.high k))))
-  where
-    part_small : (z : ℤ) → z ≤ℤ pos excess_limit → part_above_0 z ≤ excess_limit
-    part_small (pos n) h = omega (arith, ints)
-    part_small (negsuc n) h = omega arith
-
-pub lack-small : (e : List ℤ) → AreSmall e → length e ≤ entry_limit → lack e ≤ left_limit
-lack-small e small few =
-    omega (arith, sum_by-le (λ (z : ℤ). part_above_0 (neg_ℤ z)) excess_limit e (λ k d lt. part_small (slice_index_or e k d) (rw (get_or_default e k d (pos 0) lt) (small.low k))))
-  where
-    part_small : (z : ℤ) → neg_ℤ (pos excess_limit) ≤ℤ z → part_above_0 (neg_ℤ z) ≤ excess_limit
-    part_small (pos zero) h = omega arith
-    part_small (pos (suc n)) h = omega arith
-    part_small (negsuc n) h = omega (arith, ints)
 
 -- ---- pushes one after the other
 

@@ -3,7 +3,7 @@ use Rattle.std.specs.Prelude.{ℕ, ℤ, List, MatchOption, Option}
 use Rattle.residual_graph.specs.Graph.{GraphView}
 use Rattle.shortest_paths.specs.Search.{HasFound}
 use Rattle.tracked.specs.Tracked.{TrackedView}
-use Rattle.augmentation.specs.Cut.{IsParted}
+use Rattle.cuts.specs.Cut.{IsParted}
 use Rattle.augmentation.specs.ScratchView.{ScratchView}
 
 -- the last search began at nodes in excess, and came to this node in deficit

@@ -3,11 +3,8 @@ pub mod Path
 pub mod Pseudoflow
 pub mod Pushes
 pub mod Settle
-pub mod Cut
-pub mod Side
 pub mod Found
 pub mod Trails
-pub mod Excess
 pub mod Scratch
 pub mod ScratchView
 pub mod Certificate

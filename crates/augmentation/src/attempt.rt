@@ -6,8 +6,8 @@ ghost use Rattle.residual_graph.specs.Limits.{row_limit};
 ghost use Rattle.residual_graph.specs.Residual.{IsPseudoflow};
 ghost use Rattle.augmentation.specs.Attempt.{IsAttemptFor};
 
-use crate::excess::Excess;
 use containers::both;
+use cuts::Excess;
 use flow_changes::Trial;
 use proposals::{Aim, Proposals, Wanted};
 use residual_graph::Graph;

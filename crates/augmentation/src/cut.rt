@@ -1,102 +1,21 @@
-//! The nodes that show why supply is left over or demand is not met.
+//! The cut that shows why supply is left over or demand is not met: at the end of all searches, or where it comes out before
+//! a flow of least cost is found that no flow is legal.
 
-ghost use Rattle.std.specs.Prelude.{◌≡◌, ℕ, All, IfOk, length, ◌<◌, ◌≤◌, false, replicate, slice_index_or, slice_set, true};
+ghost use Rattle.std.specs.Prelude.{◌≡◌, IfSome, length};
 ghost use Rattle.residual_graph.specs.Graph.{HasEntries};
-ghost use Rattle.residual_graph.specs.Limits.{row_limit};
 ghost use Rattle.residual_graph.specs.Residual.{IsPseudoflow};
-ghost use Rattle.augmentation.specs.Cut.{AreNodesIn, AreTaken, IsSideOfCut, TellsMarks};
-ghost use Rattle.tracked.specs.Marks.{in_set};
-ghost use Rattle.tracked.specs.Tracked.{IsBroughtBack, IsFresh, IsWritten};
+ghost use Rattle.residual_graph.specs.declared.side.Side.TheVariants.{Ahead};
+ghost use Rattle.cuts.specs.Cut.{IsCutOf, IsShownBy, IsSideOfCut};
+ghost use Rattle.augmentation.specs.Pseudoflow.{IsReady};
+ghost use Rattle.augmentation.specs.ScratchView.{TellsMarks};
+ghost use Rattle.flow_changes.specs.Push.{AreSmall};
+ghost use Rattle.tracked.specs.Tracked.{IsWritten};
 
-use crate::excess::Excess;
+use crate::adoption::{lead, take_back};
 use crate::scratch::Scratch;
+use cuts::{Cut, Excess, OnSide, mark_side};
 use residual_graph::{Graph, Side};
-use std::alloc::{AllocError, Global};
-use std::marker::Model;
-use std::mem::swap;
 use tracked::{Touched, Tracked};
-
-/// A mark for each node, set where it is in the cut, beside what a snapshot kept of the marks. It is seen as this table.
-/// Each marked node is listed, and maybe others, so that another cut is marked without a look at all nodes.
-#[derive(Drop)]
-pub struct Cut {
-    table: Tracked<bool>,
-    listed: Touched,
-}
-
-impl Model for Cut {
-    ghost use Rattle.std.specs.Prelude.{Bool};
-    ghost use Rattle.augmentation.specs.Cut.{AreMarkedListed};
-    ghost use Rattle.tracked.specs.Tracked.{TrackedView};
-
-    ghost Value = { TrackedView Bool };
-
-    ghost view = { λ c. c.table };
-
-    ghost invariant = { λ c. AreMarkedListed c.listed c.table.entries };
-}
-
-impl Cut {
-    /// A cut that marks none of so many nodes.
-    ///
-    /// # Errors
-    /// Memory for a table was refused.
-    pub fn new(alloc: Global, entries: usize) -> Result<Cut, AllocError>
-        requires few { entries ≤ row_limit }
-        ensures { IfOk result (IsFresh (replicate entries false) entries) }
-    {
-        let table = Tracked::new(alloc, vec![in alloc; false; entries]?, entries)?;
-        let listed = Touched::new(alloc, entries)?;
-        Ok(Cut { table, listed })
-    }
-
-    /// The marks, and what was kept of them.
-    #[inline(always)]
-    pub fn table(&self) -> &Tracked<bool>
-        ensures { result.now ≡ self.now }
-    {
-        &self.table
-    }
-
-    /// Exchanges the mark of a node.
-    pub fn exchange(&mut self, node: usize, value: &mut bool)
-        requires node { node < length self.old.entries }
-        ensures written { IsWritten self.old self.new }
-        ensures entries { self.new.entries ≡ slice_set self.old.entries node value.old }
-        ensures value { value.new ≡ slice_index_or self.old.entries node value.old }
-    {
-        self.table.exchange(node, value);
-        self.listed.note(node);
-    }
-
-    /// Keeps the marks that stand there.
-    pub fn snapshot(&mut self)
-        ensures { IsFresh self.old.entries self.old.room self.new }
-    {
-        self.table.snapshot();
-    }
-
-    /// Brings back the marks that were kept.
-    pub fn bring_back(&mut self)
-        requires as_many { length self.old.kept ≡ length self.old.entries }
-        ensures { IsBroughtBack self.old self.new }
-    {
-        list(&mut self.listed, self.table.places());
-        self.table.bring_back();
-    }
-
-    /// Marks these nodes, and no other; their list is taken over, for the one that was.
-    pub(crate) fn take(&mut self, marked: &mut Touched)
-        requires same_length { length marked.old ≡ length self.old.entries }
-        ensures written { IsWritten self.old self.new }
-        ensures entries { self.new.entries ≡ marked.old }
-        ensures same_size { length marked.new ≡ length marked.old }
-    {
-        take_marks(&mut self.table, marked, self.listed.places());
-        take_marks(&mut self.table, marked, marked.places());
-        swap(&mut self.listed, marked);
-    }
-}
 
 /// Marks the set that tells why some supply is left over or some demand is not met; where no node is out of balance,
 /// none. It is marked in the scratch first, unless all that the nodes in excess reach is marked there already.
@@ -125,31 +44,85 @@ pub fn mark_cut(
     cut.take(&mut scratch.marked);
 }
 
-/// Makes the marks of these nodes in a table those that they have here.
-fn take_marks(table: &mut Tracked<bool>, marked: &Touched, nodes: &[u32])
-    requires same_length { length marked.now ≡ length table.old.entries }
-    requires nodes_in { All (λ v. v < length marked.now) nodes.now }
-    ensures written { IsWritten table.old table.new }
-    ensures taken { AreTaken nodes.now table.old.entries table.new.entries marked.now }
+/// Marks the cut where the first proposal finds early that no flow is legal, and gives what no flow can send out or bring in; the
+/// flow stays as it was. A greatest flow, as if no arc cost anything, tells the cut in a part of the time that one of least cost
+/// would take.
+pub fn show_cut(
+    graph: &Graph,
+    flow: &mut Tracked<i64>,
+    potentials: &[i64],
+    excess: &mut Excess,
+    scratch: &mut Scratch,
+    cut: &mut Cut,
+) -> Option<u64>
+    requires ready { IsReady graph.now flow.old.entries potentials.now excess.old }
+    requires scratch_in { length scratch.old.tree.labels ≡ length potentials.now }
+    requires cut_in { length cut.old.entries ≡ length excess.old }
+    ensures flow_written { IsWritten flow.old flow.new }
+    ensures same_flow { flow.new.entries ≡ flow.old.entries }
+    ensures same_excess { excess.new ≡ excess.old }
+    ensures cut_written { IsWritten cut.old cut.new }
+    ensures scratch { scratch.new ≡ record scratch.old { marks = scratch.new.marks } }
+    ensures shown { IfSome result (λ shortage. IsShownBy graph.now.rows
+        flow.old.entries excess.old shortage cut.new.entries) }
 {
-    for node in nodes {
-        let v = *node as usize;
-        if table.get(v) != marked.is_noted(v) {
-            table.set(v, marked.is_noted(v));
-        }
+    if !excess.has_both() {
+        return None;
     }
+    let attempt = &mut scratch.attempt;
+    if !attempt.propose_or_part(graph, flow.entries(), excess, potentials) {
+        return None;
+    }
+    lead(graph, flow, excess, attempt)?;
+    let on = OnSide {
+        side: Side::Ahead,
+        graph,
+        flow: flow.entries(),
+        ends: attempt.proposals.ends(),
+    };
+    let shown = mark_cut_of(on, excess, &mut scratch.marked, &mut scratch.hops, cut);
+    take_back(flow, excess, attempt);
+    shown
 }
 
-/// Lists these nodes, where they have an entry.
-fn list(listed: &mut Touched, nodes: &[u32])
-    ensures same_size { length listed.new ≡ length listed.old }
-    ensures still { (v : ℕ) → in_set listed.old v ≡ true → in_set listed.new v ≡ true }
-    ensures noted { AreNodesIn nodes.now listed.new }
+/// Marks the cut of a flow in which no node in excess reaches a node in deficit, and gives what is left in excess, or else what
+/// is lacking; nothing where a node in excess reaches one in deficit, or all is in balance.
+fn mark_cut_of(
+    on: OnSide<'_>,
+    excess: &Excess,
+    marked: &mut Touched,
+    hops: &mut Vec<u32>,
+    cut: &mut Cut,
+) -> Option<u64>
+    requires ahead { on.side ≡ Ahead }
+    requires graph { HasEntries (length excess.now) on.graph.now }
+    requires flow { IsPseudoflow (length excess.now) on.graph.now.rows on.flow.now }
+    requires small { AreSmall excess.now }
+    requires marked_in { length marked.old ≡ length excess.now }
+    requires cut_in { length cut.old.entries ≡ length excess.now }
+    ensures same_size { length marked.new ≡ length marked.old }
+    ensures written { IsWritten cut.old cut.new }
+    ensures cut { IfSome result (λ shortage. IsCutOf on.entry.graph.now.rows
+        on.entry.flow.now excess.now shortage cut.new.entries) }
 {
-    for node in nodes {
-        let v = *node as usize;
-        if v < listed.size() {
-            listed.note(v);
-        }
+    mark_side(on, excess, marked, hops);
+    if excess.has_deficit_among(marked) {
+        return None;
     }
+    let left = excess.amount(Side::Ahead);
+    if left > 0 {
+        cut.take(marked);
+        return Some(left);
+    }
+    let lack = excess.amount(Side::Behind);
+    if lack == 0 {
+        return None;
+    }
+    let behind = OnSide {
+        side: Side::Behind,
+        ..on
+    };
+    mark_side(behind, excess, marked, hops);
+    cut.take(marked);
+    Some(lack)
 }

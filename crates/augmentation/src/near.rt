@@ -11,9 +11,9 @@ ghost use Rattle.tracked.specs.Tracked.{IsWritten};
 ghost use Rattle.augmentation.specs.Held.{IsHeldIn};
 ghost use Rattle.augmentation.specs.Settle.{AreShortest};
 
-use crate::excess::Excess;
 use crate::potentials::{is_renewed, write_all};
 use crate::scratch::Scratch;
+use cuts::Excess;
 use proposals::Proposals;
 use residual_graph::Graph;
 use shortest_paths::Tree;

@@ -10,9 +10,9 @@ ghost use Rattle.shortest_paths.specs.Search.{IsReached};
 ghost use Rattle.shortest_paths.specs.Tree.{IsForestOf};
 
 use crate::augment::{Path, augment};
-use crate::excess::Excess;
 use crate::scratch::Scratch;
 use crate::trails::{Ground, find_way};
+use cuts::Excess;
 use residual_graph::Graph;
 use tracked::Tracked;
 

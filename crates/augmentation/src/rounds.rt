@@ -3,17 +3,17 @@
 ghost use Rattle.std.specs.Prelude.{◌≡◌, ◌≤◌, length};
 ghost use Rattle.shortest_paths.specs.Tree.{AreInStep};
 ghost use Rattle.tracked.specs.Tracked.{IsWritten};
-ghost use Rattle.augmentation.specs.Cut.{IsParted};
+ghost use Rattle.cuts.specs.Cut.{IsParted};
 ghost use Rattle.augmentation.specs.Found.{HasFoundIn, IsFoundOrParted};
 ghost use Rattle.augmentation.specs.Held.{IsHeldIn};
 ghost use Rattle.augmentation.specs.Pseudoflow.{IsCertifiedIn, IsCertifiedPseudoflow};
 ghost use Rattle.flow_changes.specs.Push.{ArePushesOf};
 ghost use Rattle.augmentation.specs.Pushes.{HavePushed};
 
-use crate::excess::Excess;
 use crate::potentials::write_all;
 use crate::pushes::{push_to, push_to_all};
 use crate::scratch::Scratch;
+use cuts::Excess;
 use residual_graph::Graph;
 use tracked::Tracked;
 

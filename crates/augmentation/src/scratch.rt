@@ -8,15 +8,14 @@ ghost use Rattle.residual_graph.specs.declared.side.Side.TheVariants.{Ahead};
 ghost use Rattle.shortest_paths.specs.Search.{IsSearch};
 ghost use Rattle.shortest_paths.specs.Tree.{AreArcsNoted, IsForgotten, IsMarkedToo, StaysHeld};
 ghost use Rattle.augmentation.specs.Certificate.{AreInRange};
-ghost use Rattle.augmentation.specs.Cut.{IsParted, AreOnSide};
+ghost use Rattle.cuts.specs.Cut.{IsParted, AreOnSide};
 ghost use Rattle.augmentation.specs.Settle.{AreShortest};
 
 use crate::attempt::Attempt;
 use crate::certificate::are_in_range;
-use crate::excess::Excess;
-use crate::side::{OnSide, mark_side};
 use crate::trails::Trails;
 use containers::{Queue, both};
+use cuts::{Excess, OnSide, mark_side};
 use proposals::Wanted;
 use residual_graph::{Graph, Side};
 use shortest_paths::Tree;

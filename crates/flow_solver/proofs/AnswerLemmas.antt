@@ -19,8 +19,8 @@ use Rattle.flow_changes.specs.Limits.{supply_limit}
 use Rattle.predecessors.specs.Limits.{label_floor}
 use Rattle.residual_graph.specs.Residual.{IsPseudoflow, IsReducedCostOptimal, ArePotentials, number_at, row_at}
 use Rattle.flow_changes.specs.Push.{AreSmall, IsExcess, part_above_0, left, cap_total}
-use Rattle.augmentation.specs.Cut.{lack, IsParted, IsShownBy, IsSideOfCut}
-use Rattle.augmentation.proofs.CutLemmas.{lack-none, none_above}
+use Rattle.cuts.specs.Cut.{lack, IsParted, IsShownBy, IsSideOfCut}
+use Rattle.cuts.proofs.CutLemmas.{lack-none, none_above}
 use Rattle.residual_graph.specs.declared.side.Side.TheVariants.{Ahead, Behind}
 use Rattle.tracked.specs.Marks.{in_set}
 use Rattle.augmentation.specs.Nodes.{held}

@@ -16,7 +16,7 @@ use Rattle.residual_graph.specs.Residual.{IsResidual, number_at, room_of}
 use Rattle.residual_graph.specs.Side.{IsRoot}
 use Rattle.residual_graph.proofs.NodeNumbers.{IsNodeOf, ends_in, is_node_or_not}
 use Rattle.tracked.specs.Marks.{in_set}
-use Rattle.augmentation.specs.Cut.{AreOnSide, far_at, far_of, near_at, near_of}
+use Rattle.cuts.specs.Cut.{AreOnSide, far_at, far_of, near_at, near_of}
 use Rattle.flow_changes.specs.Push.{IsExcess}
 use Rattle.augmentation.specs.Nodes.{table, held}
 use Rattle.augmentation.proofs.NodeLemmas.{table_at, held_other, net-none}

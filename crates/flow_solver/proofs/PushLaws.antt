@@ -10,9 +10,9 @@ use Rattle.residual_graph.specs.Residual.{number_at}
 use Rattle.residual_graph.specs.declared.side.Side.{Side}
 use Rattle.residual_graph.specs.declared.side.Side.TheVariants.{Ahead, Behind}
 use Rattle.flow_changes.specs.Push.{IsExcess, IsPush, Pushes, part_above_0, left}
-use Rattle.augmentation.specs.Cut.{amount, lack}
+use Rattle.cuts.specs.Cut.{amount, lack}
 use Rattle.augmentation.specs.Nodes.{held}
-use Rattle.augmentation.proofs.CutLemmas.{none_above, lack-none}
+use Rattle.cuts.proofs.CutLemmas.{none_above, lack-none}
 use Rattle.residual_graph.proofs.NodeNumbers.{AllEndsIn, is_node_or_not}
 use Rattle.augmentation.proofs.NodeLemmas.{held_node, held_other, net-none, nodes_sum-first}
 

@@ -8,7 +8,7 @@ use Rattle.flow_solver.specs.declared.verdict.Verdict.TheVariants.{Best, Infeasi
 use Rattle.flow_solver.specs.Moment.{IsWellFormed, Moment}
 use Rattle.residual_graph.specs.Residual.{number_at}
 use Rattle.flow_changes.specs.Push.{left}
-use Rattle.augmentation.specs.Cut.{lack}
+use Rattle.cuts.specs.Cut.{lack}
 
 -- the numbered arcs of a flow of the reduced instance carry a best flow of this worth, the return arc what the source sends out, and no node is marked
 pub record IsBestMoment (I : Instance) (flow : List ℤ) (set : ℕ → Bool) (w : ℤ) : Type 0 where

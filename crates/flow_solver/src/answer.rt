@@ -5,7 +5,7 @@ ghost use Rattle.network.specs.Flow.{AllWithinBounds};
 ghost use Rattle.network.specs.Instance.{reduced, IsLawful};
 ghost use Rattle.residual_graph.specs.Limits.{entry_limit};
 ghost use Rattle.flow_changes.specs.Push.{AreSmall, left};
-ghost use Rattle.augmentation.specs.Cut.{lack};
+ghost use Rattle.cuts.specs.Cut.{lack};
 ghost use Rattle.flow_solver.specs.Balance.{IsWrappedCost, node_supply};
 ghost use Rattle.flow_solver.specs.Answer.{IsJudged, reduced_worth};
 

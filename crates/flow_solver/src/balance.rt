@@ -7,7 +7,7 @@ ghost use Rattle.residual_graph.specs.Residual.{row_at, number_at};
 ghost use Rattle.flow_solver.specs.Balance.{AreEndsIn, AreWrapped, FollowsFlow, IsCarried, IsRaised, IsWrappedCost, IsWrappedExcess, node_supply};
 
 use crate::answer::supply_at;
-use augmentation::Excess;
+use cuts::Excess;
 use dimacs_text::ArcRow;
 use network::Network;
 use std::alloc::{AllocError, Global};

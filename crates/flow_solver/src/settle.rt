@@ -7,13 +7,14 @@ ghost use Rattle.augmentation.specs.Pseudoflow.{IsReady};
 ghost use Rattle.flow_changes.specs.Push.{ArePushes};
 ghost use Rattle.tracked.specs.Tracked.{IsWritten};
 ghost use Rattle.flow_solver.specs.Potentials.{AreAsTold, KeepStep};
-ghost use Rattle.augmentation.specs.Cut.{IsParted, AreOnSide};
+ghost use Rattle.cuts.specs.Cut.{IsParted, AreOnSide};
 ghost use Rattle.augmentation.specs.Held.{IsHeldIn};
 ghost use Rattle.residual_graph.specs.Walk.{AreRowsOf};
 ghost use Rattle.residual_graph.specs.declared.side.Side.TheVariants.{Ahead};
 
 use crate::potentials::Potentials;
-use augmentation::{Excess, Scratch, push_all, push_proposed};
+use augmentation::{Scratch, push_all, push_proposed};
+use cuts::Excess;
 use residual_graph::Graph;
 use tracked::Tracked;
 

@@ -8,7 +8,8 @@ ghost use Rattle.residual_graph.specs.Limits.{row_limit};
 
 use crate::balance::Balance;
 use crate::potentials::Potentials;
-use augmentation::{Cut, Scratch};
+use augmentation::Scratch;
+use cuts::Cut;
 use dimacs_text::ArcRow;
 use residual_graph::Graph;
 use std::alloc::{AllocError, Global};

@@ -4,7 +4,8 @@ ghost use Rattle.std.specs.Prelude.{◌≡◌, IfOk, length};
 
 use crate::start::{MOST_ROWS, are_ready, start_flow};
 use crate::steps::{prepare, take_up};
-use augmentation::{Excess, Scratch};
+use augmentation::Scratch;
+use cuts::Excess;
 use dimacs_text::{ProblemReader, TextFault};
 use network::{build, check_best};
 use proposals::{FlowChange, Wanted};

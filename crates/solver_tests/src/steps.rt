@@ -3,7 +3,8 @@
 ghost use Rattle.std.specs.Prelude.{◌≡◌, length};
 ghost use Rattle.augmentation.specs.Pseudoflow.{IsCertifiedPseudoflow, IsReady};
 
-use augmentation::{Excess, Scratch, adopt, finish};
+use augmentation::{Scratch, adopt, finish};
+use cuts::Excess;
 use proposals::Wanted;
 use residual_graph::Graph;
 use tracked::Tracked;

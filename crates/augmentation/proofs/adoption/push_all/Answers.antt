@@ -2,7 +2,7 @@ use Rattle.std.proofs.Common.{◌≤◌, ◌<◌, ◌+◌, ◌^◌, length, arit
 use Rattle.flow_changes.specs.Limits.{left_limit}
 use Rattle.flow_changes.specs.Push.{left}
 use Rattle.flow_changes.proofs.PushesLemmas.{ArePushes-more}
-use Rattle.augmentation.proofs.SettleLemmas.{left-small}
+use Rattle.cuts.proofs.ExcessLemmas.{left-small}
 use Rattle.augmentation.proofs.adoption.push_all.Goals as goal
 
 pub overflow_add-result : goal.overflow_add-result

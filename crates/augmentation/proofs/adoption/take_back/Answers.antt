@@ -3,8 +3,8 @@ use Rattle.std.specs.Prelude.{All}
 use Rattle.std.specs.Vec.{with_items}
 use Rattle.std.proofs.lemmas.List.{with_items_is}
 use Rattle.tracked.specs.Journal.{IsSince}
-use Rattle.augmentation.specs.Excess.{AreUnbalancedListed, IsBalancedOrListed}
-use Rattle.augmentation.proofs.ExcessLemmas.{listed_back}
+use Rattle.cuts.specs.Excess.{AreUnbalancedListed, IsBalancedOrListed}
+use Rattle.cuts.proofs.ExcessLemmas.{listed_back}
 use Rattle.augmentation.proofs.adoption.take_back.Goals as goal
 
 pub invariant_of-excess : goal.invariant_of-excess

@@ -3,7 +3,7 @@ use Rattle.std.proofs.lemmas.Bool.{false≢true}
 use Rattle.augmentation.specs.Pseudoflow.{IsCertifiedPseudoflow}
 use Rattle.flow_changes.proofs.PushesLemmas.{ArePushes-more}
 use Rattle.augmentation.proofs.SettleLemmas.{HavePushed-more, HavePushed-none, count_fits}
-use Rattle.augmentation.proofs.CutLemmas.{parted_unless_both}
+use Rattle.cuts.proofs.CutLemmas.{parted_unless_both}
 use Rattle.augmentation.proofs.rounds.finish.Goals as goal
 
 pub returns-then-not-has_both-clause-parted : goal.returns-then-not-has_both-clause-parted

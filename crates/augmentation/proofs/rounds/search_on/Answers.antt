@@ -5,8 +5,9 @@ use Rattle.dimacs_text.specs.declared.problem.ArcRow.{ArcRow}
 use Rattle.residual_graph.specs.Residual.{IsPseudoflow}
 use Rattle.predecessors.specs.declared.predecessor.Predecessor.{Predecessor}
 use Rattle.shortest_paths.specs.Search.{HasFound, IsDeficitFound}
-use Rattle.augmentation.specs.Cut.{IsParted}
-use Rattle.augmentation.proofs.CutLemmas.{parted_exhausted, parted_unless_both}
+use Rattle.cuts.specs.Cut.{IsParted}
+use Rattle.augmentation.proofs.CutLemmas.{parted_exhausted}
+use Rattle.cuts.proofs.CutLemmas.{parted_unless_both}
 use Rattle.augmentation.proofs.rounds.search_on.Goals as goal
 
 pub returns-then-not-has_both-clause-found : goal.returns-then-not-has_both-clause-found

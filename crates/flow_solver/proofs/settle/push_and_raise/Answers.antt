@@ -3,9 +3,9 @@ use Rattle.std.proofs.lemmas.Bool.{false≢true}
 use Rattle.residual_graph.specs.Residual.{IsPseudoflow}
 use Rattle.flow_changes.specs.Limits.{left_limit}
 use Rattle.flow_changes.specs.Push.{ArePushes, left}
-use Rattle.augmentation.proofs.CutLemmas.{parted_unless_both}
+use Rattle.cuts.proofs.CutLemmas.{parted_unless_both}
 use Rattle.flow_changes.proofs.PushesLemmas.{ArePushes-more}
-use Rattle.augmentation.proofs.SettleLemmas.{left-small}
+use Rattle.cuts.proofs.ExcessLemmas.{left-small}
 use Rattle.flow_solver.proofs.FlowLaws.{greatest_of}
 use Rattle.flow_solver.proofs.settle.push_and_raise.Goals as goal
 

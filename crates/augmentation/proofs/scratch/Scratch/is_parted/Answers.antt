@@ -1,6 +1,6 @@
 use Rattle.std.proofs.Common.{◌≡◌, Bool, ap, false, not, refl, subst, true}
 use Rattle.std.proofs.lemmas.Bool.{false≢true}
-use Rattle.augmentation.specs.Cut.{HasNoDeficit}
+use Rattle.cuts.specs.Cut.{HasNoDeficit}
 use Rattle.augmentation.specs.ScratchView.{ScratchView}
 use Rattle.augmentation.proofs.scratch.Scratch.is_parted.Goals as goal
 

@@ -1,4 +1,4 @@
-use Rattle.std.proofs.Common.{◌≡◌, ◌∙◌, ℕ, ◌<◌, ℤ, ◌≤ℤ◌, List, drop, length, pos, refl, rules, sym, subst, to_z}
+use Rattle.std.proofs.Common.{◌∙◌, ℕ, ◌<◌, ℤ, ◌≤ℤ◌, List, drop, length, pos, refl, rules, sym, subst}
 use Rattle.std.specs.Int.{w64}
 use Rattle.std.proofs.lemmas.Int.{to_z_pos}
 use Rattle.network.specs.Flow.{IsCertifiedFlow}

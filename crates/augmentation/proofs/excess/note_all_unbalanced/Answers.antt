@@ -1,5 +1,0 @@
-use Rattle.std.proofs.Common.{rules}
-use Rattle.augmentation.proofs.excess.note_all_unbalanced.Goals as goal
-
-pub loop-v-preserved : goal.loop-v-preserved
-loop-v-preserved c = search rules

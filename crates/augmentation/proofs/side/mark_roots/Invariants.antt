@@ -1,9 +1,0 @@
-use Rattle.std.proofs.Common.{◌≡◌, length}
-use Rattle.augmentation.proofs.ExcessLemmas.{AreRootsMarked}
-use Rattle.augmentation.proofs.side.mark_roots.Given as goal
-
-abbrev pub invariant-loop-j : goal.invariant-loop-j
-invariant-loop-j l = record {
-  same_size : length l.marked ≡ length l.initial.marked;
-  are : AreRootsMarked l.side l.excess l.places l.j l.marked;
-}
