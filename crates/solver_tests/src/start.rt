@@ -13,7 +13,7 @@ use std::alloc::{AllocError, Global};
 /// The most units in excess or in deficit at a node.
 const MOST_EXCESS: i64 = 301_000_000_000_000;
 /// The most entries of a table of nodes.
-const MOST_entries: usize = 50_001;
+const MOST_ENTRIES: usize = 50_001;
 /// The most rows of a graph.
 pub const MOST_ROWS: usize = 200_001;
 /// The greatest capacity.
@@ -77,7 +77,7 @@ fn is_pseudoflow(graph: &Graph, flow: &[i64], entries: usize) -> bool
     ensures { IsTrue result → IsPseudoflow entries graph.now.rows flow.now }
 {
     let rows = graph.rows();
-    if entries > MOST_entries || rows.len() > MOST_ROWS || flow.len() != rows.len() {
+    if entries > MOST_ENTRIES || rows.len() > MOST_ROWS || flow.len() != rows.len() {
         return false;
     }
     are_rows(rows, entries) && is_within(rows, flow)

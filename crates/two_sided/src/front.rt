@@ -83,7 +83,8 @@ impl Meeting {
     }
 }
 
-/// A search from the nodes in excess, as a side sees it. It is seen as the number of entries that a table of nodes has.
+/// A search from the nodes in excess, as a side sees it. The other ends of a node are here those by which this side may go on
+/// and that have no room both ways. It is seen as the number of entries that a table of nodes has.
 #[derive(Drop)]
 pub struct Front {
     labels: Vec<Label>,
