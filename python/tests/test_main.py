@@ -126,6 +126,37 @@ class Command(unittest.TestCase):
         ):
             self.run_it(*words)
 
+    def test_letters_that_the_output_does_not_have(self):
+        """They are printed by their numbers, in JSON too, and the files that were asked for have them."""
+        nodes = self.file("orte.csv", "town,supply\nKöln,5\n東京,-2\n🚢,-3\n")
+        arcs = self.file("wege.csv", "from,to,capacity,cost\nKöln,東京,9,2\nKöln,🚢,,1\n")
+        for settings in (
+            {"PYTHONIOENCODING": "ascii"},
+            {"PYTHONIOENCODING": "ascii:strict"},
+            {"LC_ALL": "C", "PYTHONUTF8": "0", "PYTHONCOERCECLOCALE": "0"},
+        ):
+            with self.subTest(settings), mock.patch.dict(os.environ, settings):
+                out, _ = self.run_it("plan", nodes, arcs, "--table", "plan.csv")
+                self.assertIn("\nK\\u00f6ln  \\u6771\\u4eac     2         9     2\n", out)
+                self.assertIn("\nK\\u00f6ln  \\ud83d\\udea2      3               1\n", out)
+                table = (Path(self.folder.name) / "plan.csv").read_text(encoding="utf-8")
+                self.assertIn("Köln,🚢,", table)
+                told = json.loads(self.run_it("plan", nodes, arcs, "--json")[0])
+                self.assertEqual([arc["to"] for arc in told["arcs"]], ["東京", "🚢"])
+                self.assertIn("K\\u00f6ln", self.run_it("ranges", nodes, arcs)[0])
+                self.assertIn("K\\u00f6ln", self.run_it("sweep", nodes, arcs, "--cap", "#1", "--values", "9")[0])
+                self.run_it("plan", "--columns", "cost=Größe", nodes, arcs, status=3)
+
+    def test_input_that_is_no_letter(self):
+        """It is refused on its line alone, and a wrong answer is told whatever it has."""
+        with mock.patch.dict(os.environ, {"PYTHONIOENCODING": "ascii"}):
+            out, _ = self.run_it("what-if", self.nodes, self.arcs, text="cap straße 1\ncap road 1\n")
+        self.assertIn("refused, nothing is changed: there is no arc stra\\xc3\\x9fe", out)
+        self.assertIn("cost 14.25 (2.75 more)", out)
+        (Path(self.folder.name) / "answer").write_bytes(b"s 14\n\xdf\n")
+        _, errors = self.run_it("explain", str(TOP / "examples/diamond/problem.min"), "--answer", "answer", status=3)
+        self.assertNotIn("codec", errors)
+
     def test_streams_that_are_closed(self):
         for words, closed, status, out, errors in (
             (("plan", self.nodes, self.arcs), "<&-", 0, "cost 11.5", TAKEN),

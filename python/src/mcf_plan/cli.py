@@ -3,13 +3,15 @@
 from __future__ import annotations
 
 import argparse
+import codecs
+import json
 import os
 import re
 import sys
 import tempfile
 from contextlib import ExitStack
 from decimal import Decimal
-from io import StringIO
+from io import StringIO, TextIOWrapper
 from pathlib import Path
 from typing import Callable, Dict, Iterable, List, NoReturn, Optional, TextIO, Tuple
 
@@ -18,7 +20,7 @@ from .conversation import Conversation
 from .deadline import MOST_SECONDS, alarm, lift_alarm
 from .dimacs import Fault, find_answer_fault, find_fault, parse_problem
 from .explain import explain
-from .formats import as_str
+from .formats import as_bytes, as_str
 from .hints import PACKED
 from .meaning import amounts_of, taken_for
 from .plan import Disagreement, Plan
@@ -54,6 +56,7 @@ def main(arguments: Optional[List[str]] = None) -> int:
     """Runs the command and returns its status. A signal that asks the process to end does so."""
     if not _streams_are_open():
         return _say("the output is closed", FAILED)
+    _take_all_letters()
     options = _parser().parse_args(joined_values(sys.argv[1:] if arguments is None else arguments))
     try:
         with hearing():
@@ -70,6 +73,22 @@ def _streams_are_open() -> bool:
         if getattr(sys, name) is None:
             setattr(sys, name, open(os.devnull, mode, encoding="utf-8"))
     return getattr(sys, "stdout") is not None
+
+
+def _take_all_letters() -> None:
+    """Lets no letter end a command: one that the encoding of the output does not have is printed by its number, and a
+    byte of the input that is no letter is refused with its line."""
+    codecs.register_error("mcf_plan", _by_number)
+    for stream, errors in ((sys.stdin, "surrogateescape"), (sys.stdout, "mcf_plan"), (sys.stderr, "mcf_plan")):
+        if isinstance(stream, TextIOWrapper):
+            stream.reconfigure(errors=errors)
+
+
+def _by_number(error: UnicodeError) -> Tuple[str, int]:
+    """Letters that can't be encoded, by their numbers as JSON has them, which goes on behind them."""
+    if not isinstance(error, UnicodeEncodeError):
+        raise error
+    return json.dumps(error.object[error.start : error.end])[1:-1], error.end
 
 
 def _run(options: argparse.Namespace) -> int:
@@ -116,8 +135,8 @@ def _kept(error: Disagreement) -> str:
     if not error.problem_text:
         return ""
     folder = Path(tempfile.mkdtemp(prefix="mcf-plan-"))
-    (folder / "problem").write_text(error.problem_text)
-    (folder / "answer").write_text(error.answer_text)
+    (folder / "problem").write_bytes(as_bytes(error.problem_text))
+    (folder / "answer").write_bytes(as_bytes(error.answer_text))
     return f"; the texts are kept in {folder}, please report them"
 
 
@@ -439,8 +458,8 @@ def _explain(options: argparse.Namespace) -> int:
     problem = _read(options)
     if options.answer:
         rewriting = rewrite(problem, Options(options.surplus))
-        answer = sys.stdin.read() if options.answer == "-" else Path(options.answer).read_text()
-        result = rewriting.checked(answer, Program())
+        answer = sys.stdin.buffer.read() if options.answer == "-" else Path(options.answer).read_bytes()
+        result = rewriting.checked(as_str(answer), Program())
     else:
         result = solve(problem, Options(options.surplus))
     if isinstance(result, Plan):
@@ -530,7 +549,7 @@ def _convert(options: argparse.Namespace) -> int:
     _tell_notes(rewriting.notes)
     lift_alarm()
     if options.output:
-        Path(options.output).write_text(rewriting.text)
+        Path(options.output).write_text(rewriting.text, encoding="utf-8")
     else:
         sys.stdout.write(rewriting.text)
     return 0
