@@ -104,6 +104,7 @@ class Command(unittest.TestCase):
         text = self.file("max.min", "p max 2 1\nn 1 s\nn 2 t\na 1 2 9\n")
         for words, wanted in (
             (("--kind", "asn"), "--kind asn is said, and the kind of this text is max"),
+            (("--kind", "min"), "--kind min is said, and the kind of this text is max"),
             (("--kind", "max", "--source", "2", "--sink", "1"), "--source 2 is said, and the source of this text is 1"),
         ):
             with self.subTest(words):
@@ -114,6 +115,22 @@ class Command(unittest.TestCase):
         other = self.file("other.min", "p min 2 1\na 1 2 0 9 1\n")
         self.assertIn("the kind of this text is min", self.run_it("plan", other, "--kind", "max", status=3)[1])
         self.assertIn("the source of this text is none", self.run_it("plan", other, "--source", "1", status=3)[1])
+
+    def test_what_is_said_of_tables_for_a_text(self):
+        """It would be passed over, and is refused."""
+        text = str(TOP / "examples/diamond/problem.min")
+        for words in (
+            ("--columns", "cost=fee"),
+            ("--decimal", ","),
+            ("--default-cost", "0"),
+            ("--encoding", "cp1252"),
+        ):
+            with self.subTest(words):
+                _, errors = self.run_it("plan", text, *words, status=3)
+                self.assertIn(f"problem.min: {words[0]} is said, and this is a problem text", errors)
+        self.run_it("plan", text, "--round", "0", "--kind", "min")
+        _, errors = self.run_it("plan", self.nodes, self.arcs, "--source", "Kiel", "--sink", "Ulm", status=3)
+        self.assertIn("--source Kiel is said, and a maximum flow alone has one", errors)
 
     def test_other_forms_of_letters(self):
         nodes, arcs = self.file("n.csv", "name,supply\nK\u00f6ln,1\nUlm,-1\n"), self.file(

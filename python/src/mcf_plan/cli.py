@@ -230,8 +230,7 @@ def _add_tables(parser: argparse.ArgumentParser) -> None:
     parser.add_argument(
         "--kind",
         choices=["min", "max", "asn"],
-        default="min",
-        help="least cost (min), maximum flow (max) or assignment (asn)",
+        help="least cost (min, where nothing is said), maximum flow (max) or assignment (asn)",
     )
     parser.add_argument("--source", metavar="NODE", help="where a maximum flow starts")
     parser.add_argument("--sink", metavar="NODE", help="where it ends")
@@ -375,13 +374,24 @@ def _read_source(options: argparse.Namespace) -> Problem:
     if len(tables) > 2:
         raise TableFault(f"{len(tables)} tables are given, and there are two: that of nodes, then that of arcs")
     if len(tables) == 1 and not is_table(tables[0]):
+        for what, unused in (
+            ("columns", options.columns),
+            ("decimal", options.decimal),
+            ("default-cost", options.default_cost),
+            ("encoding", options.encoding),
+        ):
+            if unused not in (None, []):
+                raise TableFault(
+                    f"{tables[0]}: --{what} is said, and this is a problem text, which is read in one way alone; a "
+                    "table ends in .csv, .tsv, .xlsx or .geojson"
+                )
         problem = _read_problem_text(tables[0])
         for what, said, own in (
             ("kind", options.kind, problem.kind),
             ("source", options.source, problem.source),
             ("sink", options.sink, problem.sink),
         ):
-            if said not in (None, "min", own):
+            if said not in (None, own):
                 raise TableFault(
                     f"{tables[0]}: --{what} {said} is said, and the {what} of this text is {own or 'none'}"
                 )
@@ -390,13 +400,15 @@ def _read_source(options: argparse.Namespace) -> Problem:
     for what, name in (("--source", options.source), ("--sink", options.sink)):
         if options.kind == "max" and name is None:
             raise TableFault(f"a maximum flow wants {what} NODE")
+        if options.kind != "max" and name is not None:
+            raise TableFault(f"{what} {name} is said, and a maximum flow alone has one: say `--kind max` too")
     columns: Dict[str, List[str]] = {}
     for what, name in (pair for pairs in options.columns for pair in pairs):
         columns.setdefault(what, []).append(name)
     return read_tables(
         tables[0] if len(tables) == 2 else None,
         tables[-1],
-        kind=options.kind,
+        kind=options.kind or "min",
         balance=options.balance,
         source=options.source,
         sink=options.sink,
