@@ -260,6 +260,35 @@ class Workbooks(InFolder):
                 self.assertRegex(out + errors, wanted)
 
     @needs("openpyxl")
+    def test_rows_and_columns_without_a_size(self):
+        """Nobody sees them, as if they were hidden."""
+        for title, mark, size, wanted in (
+            ("a row", b'<row r="2"', b' ht="0" customHeight="1"', "1 row that is hidden counts as the others do"),
+            ("a low row", b'<row r="2"', b' ht="0.75" customHeight="1"', ""),
+            (
+                "a column",
+                b"<sheetData>",
+                b'<cols><col min="3" max="3" width="0" customWidth="1"/></cols>',
+                "the column 'capacity' is hidden, and is read as the others are",
+            ),
+        ):
+            path = book("book.xlsx", nodes=NODES, arcs=[HEAD, ["Kiel", "Berlin", 9, 2.5]])
+            with zipfile.ZipFile(path) as file:
+                parts = {name: file.read(name) for name in file.namelist()}
+            place = max(name for name in parts if name.startswith("xl/worksheets/sheet"))
+            at = mark if mark.startswith(b"<row") else b""
+            parts[place] = parts[place].replace(mark, at + size + mark[len(at) :])
+            self.assertIn(size, parts[place])
+            with zipfile.ZipFile(path, "w") as file:
+                for name, content in parts.items():
+                    file.writestr(name, content)
+            with self.subTest(title):
+                summary, notes = self.told(path)
+                self.assertEqual(summary, "0: cost 12.5")
+                self.assertIn(wanted, notes)
+                self.assertEqual("hidden" in notes, bool(wanted))
+
+    @needs("openpyxl")
     def test_names_that_are_dates_and_times(self):
         import datetime
 
@@ -379,6 +408,19 @@ class Workbooks(InFolder):
         self.assertTrue(Path("book.xlsx").is_symlink())
         self.assertEqual(openpyxl.load_workbook(kept).sheetnames, ["nodes", "arcs", "plan"])
         self.assertEqual(kept.stat().st_mode & 0o777, 0o600)
+
+    @needs("openpyxl")
+    def test_files_beside_a_workbook_are_kept(self):
+        path = book("book.xlsx", nodes=NODES, arcs=[HEAD, ["Kiel", "Berlin", 9, 2.5]])
+        beside = Path("book.xlsx.new")
+        beside.write_text("mine")
+        self.assertEqual(self.told(path, "--table", "book.xlsx:plan"), ("0: cost 12.5", ""))
+        self.assertEqual(beside.read_text(), "mine")
+        self.assertEqual(self.told(path, "--table", "new.xlsx")[0], "0: cost 12.5")
+        self.assertEqual(sorted(each.name for each in Path().iterdir()), ["book.xlsx", "book.xlsx.new", "new.xlsx"])
+        self.assertEqual(Path("new.xlsx").stat().st_mode, beside.stat().st_mode)
+        _, _, errors = run(path, "--table", "nowhere/plan.xlsx")
+        self.assertTrue(errors.endswith("nowhere/plan.xlsx: No such file or directory\n"), errors)
 
     @needs("openpyxl")
     def test_tables_that_are_not_written(self):

@@ -12,6 +12,7 @@ import os
 import posixpath
 import re
 import shutil
+import tempfile
 import zipfile
 from pathlib import Path
 from typing import Any, Dict, FrozenSet, Iterator, List, NamedTuple, Sequence, Set, Tuple, Union
@@ -194,14 +195,14 @@ class _Reader:
         try:
             with self.file.open(part) as raw:
                 for _, element in ElementTree.iterparse(raw):
-                    if _local(element) == "col" and element.get("hidden") in ("1", "true"):
+                    if _local(element) == "col" and _is_hidden(element, "width"):
                         first, last = int(element.get("min", "1")), int(element.get("max", "1"))
                         self.hidden_columns.update(range(first - 1, min(last, MOST_COLUMNS)))
                     elif _local(element) == "row":
                         cells = {place: cell for place, cell in self._cells(element) if not is_empty(cell)}
                         number = int(element.get("r") or number + 1)
                         if cells:
-                            self.hidden += element.get("hidden") in ("1", "true")
+                            self.hidden += _is_hidden(element, "ht")
                             self.struck += self._is_struck(element)
                             lines.append(number)
                             rows.append(cells)
@@ -251,6 +252,11 @@ class _Reader:
         if look:
             return _date(float(text), self.day_0) if look == "date" else f"{float(text) * 100:g}%"
         return int(text) if re.fullmatch(r"-?\d{1,15}", text) else float(text)
+
+
+def _is_hidden(element: ElementTree.Element, size: str) -> bool:
+    """Whether nobody sees a row or a column: it is said to be hidden, or has no height or width."""
+    return element.get("hidden") in ("1", "true") or float(element.get(size, "1")) == 0
 
 
 def _place(name: str) -> int:
@@ -417,13 +423,15 @@ def _replace(path: Path, parts: Sequence[Tuple[str, bytes]]) -> None:
     """Writes the parts as a file that takes the place of the one that is there when it is whole, for whom that was
     there; a link stays one."""
     path = path.resolve()
-    new = path.with_name(path.name + ".new")
     try:
-        with zipfile.ZipFile(new, "w", zipfile.ZIP_DEFLATED) as file:
-            for name, content in parts:
-                file.writestr(zipfile.ZipInfo(name), content, zipfile.ZIP_DEFLATED)
-        if path.exists():
-            shutil.copymode(path, new)
-        os.replace(new, path)
-    finally:
-        new.unlink(missing_ok=True)
+        # Made in a folder of its own beside it, so that no other file is in the way.
+        with tempfile.TemporaryDirectory(prefix=".mcf-plan-", dir=path.parent) as folder:
+            new = Path(folder) / "book"
+            with zipfile.ZipFile(new, "w", zipfile.ZIP_DEFLATED) as file:
+                for name, content in parts:
+                    file.writestr(zipfile.ZipInfo(name), content, zipfile.ZIP_DEFLATED)
+            if path.exists():
+                shutil.copymode(path, new)
+            os.replace(new, path)
+    except OSError as error:
+        raise OSError(error.errno, error.strerror, str(path)) from None
