@@ -637,6 +637,23 @@ class Frames(unittest.TestCase):
                 self.assertRegex("\n".join(problem.notes), wanted)
 
     @needs("pandas")
+    def test_rows_with_a_name_in_the_index_alone(self):
+        """They are no blank rows: an arc without a cost is refused there too, and a node keeps its place."""
+        import pandas
+
+        nodes = pandas.DataFrame({"supply": [5, -5, None]}, index=["Kiel", "Berlin", "Ulm"])
+        arcs = pandas.DataFrame([["Kiel", "Berlin", 9, 2.5], ["Berlin", "Kiel", None, None]], columns=HEAD)
+        arcs = arcs.set_index(HEAD[:2])
+        with self.assertRaisesRegex(TableFault, "row .'Berlin', 'Kiel'., column 'cost': .* the cost of a unit was"):
+            read_tables(nodes, arcs)
+        for index in (nodes, nodes.rename_axis("town")):
+            problem = read_tables(index, arcs, default_cost=0)
+            self.assertEqual(list(problem.nodes), ["Kiel", "Berlin", "Ulm"])
+            self.assertEqual(len(problem.arcs), 2)
+        blank = nodes.rename_axis("town").rename(index={"Ulm": None})
+        self.assertEqual(list(read_tables(blank, arcs.iloc[:1]).nodes), ["Kiel", "Berlin"])
+
+    @needs("pandas")
     def test_messages_say_which_frame(self):
         import pandas
 

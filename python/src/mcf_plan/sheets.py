@@ -223,20 +223,22 @@ def sheet_of_frame(frame: Any, name: str) -> Sheet:
     header = [str(column).strip() for column in frame.columns]
     columns: List[Sequence[Any]] = [_cells_of(frame.iloc[:, place]) for place in range(len(header))]
     lines = frame.index.tolist()
-    kept = [number for number, row in enumerate(zip(*columns)) if any(not is_empty(cell) for cell in row)]
+    levels, index_name = getattr(frame.index, "nlevels", 1), frame.index.name
+    if levels > 1:
+        header += ["" if level is None else str(level) for level in frame.index.names]
+        columns += [[line[level] for line in lines] for level in range(levels)]
+    elif index_name is not None:
+        header.append(str(index_name).strip())
+        columns.append(lines)
+    has_names = levels == 1 and index_name is None and any(isinstance(line, str) for line in lines)
+    # A row is blank where its name, which may stand in the index, is empty too.
+    cells = [*columns, lines] if has_names else columns
+    kept = [number for number, row in enumerate(zip(*cells)) if any(not is_empty(cell) for cell in row)]
     if len(kept) != len(lines):
         columns = [[column[number] for number in kept] for column in columns]
         lines = [lines[number] for number in kept]
     sheet = Sheet(name, header, columns, [_row_label(line) for line in lines], "row")
-    index_name = frame.index.name
-    if getattr(frame.index, "nlevels", 1) > 1:
-        for level, name in enumerate(frame.index.names):
-            sheet.header.append(str(name if name is not None else ""))
-            sheet.columns.append([line[level] for line in lines])
-    elif index_name is not None:
-        sheet.header.append(str(index_name).strip())
-        sheet.columns.append(lines)
-    elif any(isinstance(line, str) for line in lines):
+    if has_names:
         sheet.index, sheet.index_name = lines, "the index"
     return sheet
 
