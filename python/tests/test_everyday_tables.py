@@ -575,7 +575,7 @@ class Frames(unittest.TestCase):
     def test_short_floats(self):
         import pandas
 
-        for dtype in ("float32", "float16", "Float32"):
+        for dtype in ("float32", "float16", "Float32", "Sparse[float]", "Sparse[float32]"):
             with self.subTest(dtype):
                 nodes = pandas.DataFrame({"name": [7.0, 8.0], "supply": [0.5, -0.5]}).astype(dtype)
                 arcs = pandas.DataFrame(
@@ -719,6 +719,11 @@ class Maps(InFolder):
                 [kiel, berlin, line(ends[0], [13.41, 52.5], **road)],
                 "feature 3: .* no point .* 13.41, 52.5",
             ),
+            (
+                "nearly at the end",
+                [kiel, berlin, line(ends[0], [13.4, 52.50000001], **road)],
+                "feature 3: .* no point .* 13.4, 52.50000001",
+            ),
             ("two at one place", [kiel, point(ends[0], name="Kiel 2"), line(*ends, **road)], "stand at one place"),
             (
                 "German",
@@ -769,7 +774,11 @@ class Maps(InFolder):
                 ],
                 "cost 12.5",
             ),
-            ("nothing in place of a feature", [kiel, berlin, None, line(*ends, **road)], "cost 12.5"),
+            (
+                "nothing in place of a feature",
+                [kiel, berlin, None, line(*ends, **road)],
+                "cost 12.5[^:]*\n(.*\n)*note: .* 1 of its features without a geometry is left aside",
+            ),
             ("no geometry", [kiel, berlin, {**area, "geometry": [1, 2]}], "feature 3: its geometry and its properties"),
             ("no properties", [kiel, {**berlin, "properties": ["name"]}], "feature 2: its geometry and its properties"),
             (

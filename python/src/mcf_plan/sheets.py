@@ -246,6 +246,8 @@ def sheet_of_frame(frame: Any, name: str) -> Sheet:
 def _cells_of(column: Any) -> List[Any]:
     """The cells of a column of a frame. Short floats are taken as they are printed, as all others are: in 64 bits 0.1
     would become 0.10000000149011612."""
+    if hasattr(column, "sparse"):
+        column = column.sparse.to_dense()
     dtype = column.dtype
     if getattr(dtype, "kind", "") == "f" and dtype.itemsize < 8:
         return [cell if is_empty(cell) else float(str(cell)) for cell in column.array]
