@@ -371,6 +371,49 @@ class Workbooks(InFolder):
         self.assertRegex(run("f.xlsx")[2], "no workbook of the kind .xlsx")
 
     @needs("openpyxl")
+    def test_workbooks_that_are_damaged(self):
+        """They are refused, whatever is wrong with them, and nothing is written to them."""
+        path = book("book.xlsx", nodes=NODES, arcs=[HEAD, ["Kiel", "Berlin", 9, 2.5]])
+        whole = Path(path).read_bytes()
+        with zipfile.ZipFile(path) as file:
+            parts = {name: file.read(name) for name in file.namelist()}
+            at = file.getinfo("xl/worksheets/sheet1.xml").header_offset + 30 + len("xl/worksheets/sheet1.xml")
+
+        def without(name):
+            return {other: content for other, content in parts.items() if other != name}
+
+        sheet, styles = parts["xl/worksheets/sheet2.xml"], parts["xl/styles.xml"]
+        for title, made in (
+            ("bytes that are others", whole[: at + 20] + b"\xff\xff\xff\xff" + whole[at + 24 :]),
+            ("bytes that are not there", whole[: at + 100]),
+            ("a password", whole.replace(b"PK\x01\x02\x14\x03\x14\x00\x00\x00", b"PK\x01\x02\x14\x03\x14\x00\x01\x00")),
+            ("no sheet", without("xl/worksheets/sheet1.xml")),
+            ("no list of sheets", without("xl/_rels/workbook.xml.rels")),
+            ("a sheet that is no XML", {**parts, "xl/worksheets/sheet2.xml": sheet[:-20]}),
+            ("an unknown encoding", {**parts, "xl/styles.xml": b'<?xml version="1.0" encoding="no"?><a/>'}),
+            ("a style without number", {**parts, "xl/styles.xml": styles.replace(b'numFmtId="0"', b'numFmtId=""')}),
+            ("a cell beyond", {**parts, "xl/worksheets/sheet2.xml": sheet.replace(b'"D2"', b'"XFE2"')}),
+            ("a cell without letters", {**parts, "xl/worksheets/sheet2.xml": sheet.replace(b'"D2"', b'"2"')}),
+        ):
+            if isinstance(made, dict):
+                with zipfile.ZipFile("bad.xlsx", "w") as file:
+                    for name, content in made.items():
+                        file.writestr(name, content)
+            else:
+                Path("bad.xlsx").write_bytes(made)
+            before = Path("bad.xlsx").read_bytes()
+            with self.subTest(title):
+                self.assertNotEqual(before, whole)
+                for words in (["bad.xlsx"], [path, "--table", "bad.xlsx:plan"], [path, "--table", "bad.xlsx"]):
+                    status, _, errors = run(*words)
+                    self.assertIn((status, "mcf-plan: " in errors), ((3, True), (0, False)))
+                    if words == ["bad.xlsx"]:
+                        self.assertRegex(errors, "mcf-plan: bad.xlsx: .*(damaged|can't be read)")
+                    if status:
+                        self.assertEqual(Path("bad.xlsx").read_bytes(), before)
+                    Path("bad.xlsx").write_bytes(before)
+
+    @needs("openpyxl")
     def test_a_plan_as_a_sheet(self):
         import openpyxl
 
