@@ -408,6 +408,18 @@ class Command(unittest.TestCase):
         out, _ = self.run_it("what-if", self.nodes, self.arcs, "--commands", commands)
         self.assertEqual(out.count("refused, nothing is changed: arcs.csv: this would take the place of a table"), 4)
         self.assertEqual((Path(self.nodes).read_text(), Path(self.arcs).read_text()), (NODES, ARCS))
+        for name, option in (("report.html", "--report"), ("plan.svg", "--picture")):
+            (Path(self.folder.name) / name).symlink_to(self.arcs)
+            self.assertIn("take the place", self.run_it("plan", self.nodes, self.arcs, option, name, status=3)[1])
+        text = self.file("problem", "p min 2 1\nn 1 1\nn 2 -1\na 1 2 0 9 1\n")
+        for words in (
+            ("plan", text, "--report", text),
+            ("sweep", text, "--cap", "#1", "--values", "1", "--chart", text),
+        ):
+            self.assertIn("take the place of the text", self.run_it(*words, status=3)[1])
+        out, _ = self.run_it("what-if", text, text=f"proof {text}\nreport {text}\nwrite {text}\n")
+        self.assertEqual((out.count("refused"), out.count("written")), (2, 1))
+        self.run_it("convert", text, "-o", text)
         texts = self.file("nodes.txt", NODES), self.file("arcs.txt", ARCS)
         self.assertIn("take the place", self.run_it("convert", *texts, "-o", texts[1], status=3)[1])
         problem = self.file("same.min", "p min 2 1\na 1 2 0 9 1\n")

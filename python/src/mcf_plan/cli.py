@@ -437,6 +437,9 @@ def _plan(options: argparse.Namespace) -> int:
 
     if options.table:
         check_output(options.table, options.tables)
+    for page in (options.report, options.picture):
+        if page:
+            check_kept(page, options.tables)
     with Progress() as progress:
         progress.now("reading the tables")
         problem = _read_source(options)
@@ -554,7 +557,7 @@ def _tell_fault(fault: Fault, name: str, raw: bytes) -> None:
 
 def _convert(options: argparse.Namespace) -> int:
     if options.output:
-        check_kept(options.output, options.tables)
+        check_kept(options.output, options.tables, is_problem=True)
     problem = _read_source(options)
     _tell_notes(problem.notes)
     rewriting = rewrite(problem, Options(options.surplus))

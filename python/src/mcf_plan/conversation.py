@@ -108,8 +108,8 @@ class Conversation:
             "saves": lambda words: self.saves(),
             "mark": lambda words: self.mark(one(words)),
             "moments": lambda words: self.moments(),
-            "write": lambda words: self.write(one(words), session.text),
-            "proof": lambda words: self.write(one(words), session.proof),
+            "write": lambda words: self.write(one(words), session.text, is_problem=True),
+            "proof": lambda words: self.write(one(words), session.proof, is_problem=False),
             "report": lambda words: self.report(one(words)),
             "table": lambda words: self.table(one(words)),
             "group": lambda words: self.open_group(),
@@ -325,9 +325,9 @@ class Conversation:
         for name in self.session.marks:
             self.say(f"{name}: {self.marked[name]}")
 
-    def write(self, name: str, text: Callable[[], str]) -> None:
+    def write(self, name: str, text: Callable[[], str], *, is_problem: bool) -> None:
         """Writes a text to a file."""
-        check_kept(name, self.inputs)
+        check_kept(name, self.inputs, is_problem=is_problem)
         Path(name).write_text(text(), encoding="utf-8")
         self.say(f"written to {name}")
 
