@@ -411,6 +411,8 @@ class Command(unittest.TestCase):
         for name, option in (("report.html", "--report"), ("plan.svg", "--picture")):
             (Path(self.folder.name) / name).symlink_to(self.arcs)
             self.assertIn("take the place", self.run_it("plan", self.nodes, self.arcs, option, name, status=3)[1])
+        _, errors = self.run_it("plan", self.nodes, self.arcs, "--report", "./a", "--picture", "a", status=3)
+        self.assertIn("the report and the picture would be one file", errors)
         text = self.file("problem", "p min 2 1\nn 1 1\nn 2 -1\na 1 2 0 9 1\n")
         for words in (
             ("plan", text, "--report", text),

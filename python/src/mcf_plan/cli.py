@@ -437,9 +437,11 @@ def _plan(options: argparse.Namespace) -> int:
 
     if options.table:
         check_output(options.table, options.tables)
-    for page in (options.report, options.picture):
-        if page:
-            check_kept(page, options.tables)
+    pages = [name for name in (options.report, options.picture) if name]
+    for page in pages:
+        check_kept(page, options.tables)
+    if len(set(map(os.path.realpath, pages))) < len(pages):
+        raise TableFault(f"{pages[0]}: the report and the picture would be one file; give each a name of its own")
     with Progress() as progress:
         progress.now("reading the tables")
         problem = _read_source(options)

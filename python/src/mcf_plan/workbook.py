@@ -435,16 +435,16 @@ def _escaped(text: str) -> str:
 def _replace(path: Path, parts: Sequence[Tuple[str, bytes]]) -> None:
     """Writes the parts as a file that takes the place of the one that is there when it is whole, for whom that was
     there; a link stays one."""
-    path = path.resolve()
+    kept = path.resolve()
     try:
         # Made in a folder of its own beside it, so that no other file is in the way.
-        with tempfile.TemporaryDirectory(prefix=".mcf-plan-", dir=path.parent) as folder:
+        with tempfile.TemporaryDirectory(prefix=".mcf-plan-", dir=kept.parent) as folder:
             new = Path(folder) / "book"
             with zipfile.ZipFile(new, "w", zipfile.ZIP_DEFLATED) as file:
                 for name, content in parts:
                     file.writestr(zipfile.ZipInfo(name), content, zipfile.ZIP_DEFLATED)
-            if path.exists():
-                shutil.copymode(path, new)
-            os.replace(new, path)
+            if kept.exists():
+                shutil.copymode(kept, new)
+            os.replace(new, kept)
     except OSError as error:
         raise OSError(error.errno, error.strerror, str(path)) from None
