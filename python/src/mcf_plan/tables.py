@@ -75,6 +75,8 @@ def read_tables(
         node_table = Table(node_sheet, found, reading)
         _find_names(node_table, ends)
         compare_units({**_units(node_table), **_units(arc_table)})
+        node_table.look_at(arc_table)
+        arc_table.look_at(node_table)
         _read_nodes(problem, node_table, ends)
         for name in ends:
             if name not in problem.nodes and folded(name) in SUMS and name in tails:
