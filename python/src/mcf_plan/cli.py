@@ -28,7 +28,7 @@ from .printing import of_system, say, tell, visible
 from .problem import Problem, exact, plain
 from .program import Program, ProgramFailed, Refused, TimeLimit
 from .progress import Progress
-from .questions import add_ranges, add_sweep, joined_values, run_ranges, run_sweep
+from .questions import add_ranges, add_sweep, file_named, joined_values, run_ranges, run_sweep
 from .rewrite import BeyondLimits, CannotRewrite, Options, Surplus, Unbounded, rewrite, solve
 from .rounding import MOST_DECIMALS, round_problem
 from .session import EditRefused, Session
@@ -174,13 +174,18 @@ def _parser() -> argparse.ArgumentParser:
     plan.add_argument("--report", metavar="FILE", type=_page, help="write a report with a picture (.html)")
     plan.add_argument("--picture", metavar="FILE", type=_picture, help="write the picture alone (.svg)")
     plan.add_argument(
-        "--table", metavar="FILE", help="write the plan as a table (.csv, .tsv, .xlsx, or book.xlsx:SHEET)"
+        "--table",
+        metavar="FILE",
+        type=file_named,
+        help="write the plan as a table (.csv, .tsv, .xlsx, or book.xlsx:SHEET)",
     )
     plan.add_argument("--json", action="store_true", help="print it as JSON")
     plan.add_argument("--title", default="Plan", help="the report's title")
 
     what_if = command("what-if", _what_if, "ask what would be if, at a prompt or from a file", tables=True)
-    what_if.add_argument("--commands", metavar="FILE", help="read the commands from a file in place of the prompt")
+    what_if.add_argument(
+        "--commands", metavar="FILE", type=file_named, help="read the commands from a file in place of the prompt"
+    )
 
     board = command("board", _board, "serve the what-if page on this computer alone", tables=True)
     board.add_argument("--port", type=_port, default=0, help="the port, up to 65535; without it a free one")
@@ -188,7 +193,10 @@ def _parser() -> argparse.ArgumentParser:
 
     why = command("explain", _explain, "say why there is no plan", tables=True)
     why.add_argument(
-        "--answer", metavar="FILE", help="explain this answer of mcf to the problem text, in place of solving"
+        "--answer",
+        metavar="FILE",
+        type=file_named,
+        help="explain this answer of mcf to the problem text, in place of solving",
     )
 
     check = command("check", _check, "check an answer to a problem text, whoever made it", tables=False)
@@ -209,7 +217,9 @@ def _parser() -> argparse.ArgumentParser:
     convert = command(
         "convert", _convert, "write tables, or a text of another program, as a text that mcf reads", tables=True
     )
-    convert.add_argument("-o", "--output", metavar="FILE", help="write to a file in place of the output")
+    convert.add_argument(
+        "-o", "--output", metavar="FILE", type=file_named, help="write to a file in place of the output"
+    )
 
     ranges = command(
         "ranges", _ranges, "say what one unit more saves, and within which costs the plan stays best", tables=True
@@ -324,20 +334,12 @@ def _seconds(text: str) -> float:
 
 def _page(text: str) -> str:
     """What `--report` says."""
-    return _named(text, "a report is a page of HTML", (".html", ".htm"))
+    return file_named(text, "a report is a page of HTML", (".html", ".htm"))
 
 
 def _picture(text: str) -> str:
     """What `--picture` says."""
-    return _named(text, "a picture is SVG", (".svg",))
-
-
-def _named(text: str, words: str, endings: Tuple[str, ...]) -> str:
-    """A file's name that promises nothing else than what is written."""
-    ending = Path(text).suffix.lower()
-    if ending and ending not in endings:
-        raise argparse.ArgumentTypeError(f"'{text}' ends with {ending}, and {words} ({endings[0]})")
-    return text
+    return file_named(text, "a picture is SVG", (".svg",))
 
 
 def _port(text: str) -> int:
