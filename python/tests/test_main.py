@@ -196,6 +196,30 @@ class Command(unittest.TestCase):
                 self.assertEqual((done.stdout[: len(out)], done.stderr[: len(errors)]), (out, errors))
                 self.assertEqual((bool(done.stdout), bool(done.stderr)), (bool(out), bool(errors)))
 
+    def test_streams_that_take_nothing(self):
+        """The status is the one that is documented, and nothing of Python's is said."""
+        for words, where, status in (
+            (("--help",), ">/dev/full", 4),
+            (("plan", "--help"), ">/dev/full", 4),
+            (("--version",), ">/dev/full", 4),
+            (("plan", self.nodes, self.arcs), ">/dev/full", 4),
+            (("plan", self.nodes, "nothing.csv"), "2>/dev/full", 4),
+            (("plan", self.arcs, self.arcs), "2>/dev/full", 3),
+            (("plan", "--nonsense"), "2>/dev/full", 2),
+            (("plan", "--nonsense"), ">/dev/full", 2),
+        ):
+            for buffered in ("", "1"):
+                with self.subTest(f"{words} {where}"), mock.patch.dict(os.environ, {"PYTHONUNBUFFERED": buffered}):
+                    done = subprocess.run(
+                        ["sh", "-c", f'exec "$@" {where}', "sh", COMMAND, *words],
+                        capture_output=True,
+                        text=True,
+                        check=False,
+                    )
+                    self.assertEqual(done.returncode, status, done.stderr)
+                    self.assertNotIn("Traceback", done.stderr)
+                    self.assertNotIn("Exception", done.stderr)
+
     def test_files_that_cannot_be_written(self):
         """What was asked for is not all there, so nothing is printed."""
         for command, *words in (

@@ -9,7 +9,7 @@ import os
 import re
 import sys
 import tempfile
-from contextlib import ExitStack
+from contextlib import ExitStack, suppress
 from decimal import Decimal
 from io import StringIO, TextIOWrapper
 from pathlib import Path
@@ -57,13 +57,23 @@ def main(arguments: Optional[List[str]] = None) -> int:
     if not _streams_are_open():
         return _say("the output is closed", FAILED)
     _take_all_letters()
-    options = _parser().parse_args(joined_values(sys.argv[1:] if arguments is None else arguments))
     try:
         with hearing():
-            return _run(options)
+            return _run(sys.argv[1:] if arguments is None else arguments)
     except Terminated as ended:
         die_of(ended.number)
         return 128 + ended.number
+    finally:
+        _let_go()
+
+
+def _let_go() -> None:
+    """Forgets what could not be printed: Python would try once more at its end, and take another status."""
+    for stream in (sys.stdout, sys.stderr):
+        try:
+            stream.flush()
+        except OSError:
+            os.dup2(os.open(os.devnull, os.O_WRONLY), stream.fileno())
 
 
 def _streams_are_open() -> bool:
@@ -91,9 +101,10 @@ def _by_number(error: UnicodeError) -> Tuple[str, int]:
     return json.dumps(error.object[error.start : error.end])[1:-1], error.end
 
 
-def _run(options: argparse.Namespace) -> int:
+def _run(arguments: List[str]) -> int:
     """Runs a command, and tells what went wrong."""
     try:
+        options = _options(arguments)
         # In a conversation each edit has its own limit.
         limit = None if options.run in (_what_if, _board) else getattr(options, "time_limit", None)
         with alarm(limit):
@@ -115,7 +126,6 @@ def _run(options: argparse.Namespace) -> int:
     except KeyboardInterrupt:
         return _say("interrupted", INTERRUPTED)
     except BrokenPipeError:
-        sys.stderr.close()
         return FAILED
     except MemoryError:
         return _say("out of memory", FAILED)
@@ -125,8 +135,18 @@ def _run(options: argparse.Namespace) -> int:
         return _say(str(error), REFUSED)
 
 
+def _options(arguments: List[str]) -> argparse.Namespace:
+    """What the command line says. Raises OSError where help is asked for and can't be printed."""
+    try:
+        return _parser().parse_args(joined_values(arguments))
+    finally:
+        sys.stdout.flush()
+
+
 def _say(words: str, status: int) -> int:
-    say(f"mcf-plan: {words}", sys.stderr)
+    # The status tells it too, where nothing can be said.
+    with suppress(OSError):
+        say(f"mcf-plan: {words}", sys.stderr)
     return status
 
 
@@ -147,7 +167,8 @@ class _Parser(argparse.ArgumentParser):
     """A parser whose refusals say where to read more."""
 
     def error(self, message: str) -> NoReturn:
-        self.print_usage(sys.stderr)
+        with suppress(OSError):
+            self.print_usage(sys.stderr)
         sys.exit(_say(f"{message}; `{self.prog} --help` tells more", USAGE))
 
 
