@@ -415,10 +415,12 @@ class Command(unittest.TestCase):
 
     def test_tables_are_kept(self):
         """What is asked for takes the place of no table that is read."""
+        chart = Path(self.folder.name) / "chart.svg"
+        chart.symlink_to(self.arcs)
         for command, *words in (
             ("plan", "--table", self.arcs),
             ("sweep", "--cap", "road", "--values", "1", "--table", self.nodes),
-            ("sweep", "--cap", "road", "--values", "1", "--chart", self.arcs),
+            ("sweep", "--cap", "road", "--values", "1", "--chart", str(chart)),
             ("convert", "-o", self.arcs),
         ):
             with self.subTest(words):
@@ -578,6 +580,14 @@ class Command(unittest.TestCase):
         out, _ = self.run_it("what-if", str(TOP / "examples/deliveries/problem.min"), text="cap 1 3 2\nsupply 5 -6\n")
         self.assertIn("cost 86 (20 more)", out)
         self.assertIn("no plan: short by 1", out)
+        out, _ = self.run_it("what-if", self.nodes, self.arcs, text="\ufeffcap road 1\n")
+        self.assertIn("what if> cap road 1\ncost 14.25 (2.75 more)", out)
+
+    def test_the_file_of_commands_is_kept(self):
+        lines = "".join(f"{word} commands\n" for word in ("write", "proof", "report"))
+        out, _ = self.run_it("what-if", self.nodes, self.arcs, "--commands", self.file("commands", lines))
+        self.assertEqual(out.count("refused, nothing is changed: commands: this would take the place of the text"), 3)
+        self.assertEqual((Path(self.folder.name) / "commands").read_text(), lines)
 
     def slow_program(self):
         """The environment with a program that never answers, which writes its number to the file that is returned."""

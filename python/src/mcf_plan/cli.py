@@ -610,7 +610,7 @@ def _what_if(options: argparse.Namespace) -> int:
     with ExitStack() as stack:
         source = stack.enter_context(_commands(options.commands)) if options.commands else sys.stdin
         session = stack.enter_context(_opened(options))
-        Conversation(session, sys.stdout, source.isatty(), options.tables).run(source)
+        Conversation(session, sys.stdout, source.isatty(), options.tables, options.commands).run(source)
     return 0
 
 
