@@ -693,6 +693,10 @@ class Frames(unittest.TestCase):
             problem = read_tables(index, arcs, default_cost=0)
             self.assertEqual(list(problem.nodes), ["Kiel", "Berlin", "Ulm"])
             self.assertEqual(len(problem.arcs), 2)
+        towns = nodes.rename_axis("town").reset_index().set_index("town", drop=False)
+        self.assertEqual(list(read_tables(towns, arcs.iloc[:1]).nodes), ["Kiel", "Berlin", "Ulm"])
+        with self.assertRaisesRegex(TableFault, "the columns 'town' and 'town' both look like the name of the node"):
+            read_tables(towns.assign(town=["Ulm", "Kiel", "Berlin"]), arcs.iloc[:1])
         blank = nodes.rename_axis("town").rename(index={"Ulm": None})
         self.assertEqual(list(read_tables(blank, arcs.iloc[:1]).nodes), ["Kiel", "Berlin"])
 

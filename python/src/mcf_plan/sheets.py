@@ -224,12 +224,14 @@ def sheet_of_frame(frame: Any, name: str) -> Sheet:
     columns: List[Sequence[Any]] = [_cells_of(frame.iloc[:, place]) for place in range(len(header))]
     lines = frame.index.tolist()
     levels, index_name = getattr(frame.index, "nlevels", 1), frame.index.name
-    if levels > 1:
-        header += ["" if level is None else str(level) for level in frame.index.names]
-        columns += [[line[level] for line in lines] for level in range(levels)]
-    elif index_name is not None:
-        header.append(str(index_name).strip())
-        columns.append(lines)
+    for level, title in enumerate(frame.index.names) if levels > 1 or index_name is not None else ():
+        labels = [line[level] for line in lines] if levels > 1 else lines
+        called = "" if title is None else str(title).strip()
+        # An index may repeat a column, as `set_index("name", drop=False)` makes it.
+        twins = [column for there, column in zip(header, columns) if there == called]
+        if list(map(str, labels)) not in [list(map(str, twin)) for twin in twins]:
+            header.append(called)
+            columns.append(labels)
     has_names = levels == 1 and index_name is None and any(isinstance(line, str) for line in lines)
     # A row is blank where its name, which may stand in the index, is empty too.
     cells = [*columns, lines] if has_names else columns
