@@ -163,6 +163,8 @@ class Command(unittest.TestCase):
                 self.assertIn("K\\u00f6ln", self.run_it("ranges", nodes, arcs)[0])
                 self.assertIn("K\\u00f6ln", self.run_it("sweep", nodes, arcs, "--cap", "#1", "--values", "9")[0])
                 self.run_it("plan", "--columns", "cost=Größe", nodes, arcs, status=3)
+        with mock.patch.dict(os.environ, {"PYTHONIOENCODING": "ascii:replace"}):
+            self.assertIn("\nK?ln  ??     2         9     2\n", self.run_it("plan", nodes, arcs)[0])
 
     def test_input_that_is_no_letter(self):
         """It is refused on its line alone, and a wrong answer is told whatever it has."""

@@ -38,6 +38,8 @@ from .tables import COLUMNS, TableFault, check_kept, check_output, read_tables, 
 
 NO_PLAN, USAGE, REFUSED, FAILED, UNBOUNDED, BEYOND, DISAGREE, TOO_LONG, INTERRUPTED = 1, 2, 3, 4, 6, 7, 8, 124, 130
 MOST_PORT = 65_535
+USUAL_ERRORS = ("strict", "surrogateescape", "backslashreplace")
+"""What Python does, where nobody says otherwise, with a letter that an encoding does not have."""
 
 STATUSES = """status:
   0    done
@@ -90,7 +92,8 @@ def _take_all_letters() -> None:
     byte of the input that is no letter is refused with its line."""
     codecs.register_error("mcf_plan", _by_number)
     for stream, errors in ((sys.stdin, "surrogateescape"), (sys.stdout, "mcf_plan"), (sys.stderr, "mcf_plan")):
-        if isinstance(stream, TextIOWrapper):
+        # Where somebody asked for `replace`, say, by PYTHONIOENCODING, that stays.
+        if isinstance(stream, TextIOWrapper) and stream.errors in USUAL_ERRORS:
             stream.reconfigure(errors=errors)
 
 
