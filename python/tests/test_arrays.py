@@ -102,6 +102,9 @@ class Arrays(unittest.TestCase):
         self.assertEqual((short.shortage, short.cut.dtype, short.cut.tolist()), (1, bool, [True, False, False, False]))
         unlimited = solve_arrays(tails, heads, numpy.array([numpy.inf] * 5), costs, supplies)
         self.assertEqual(unlimited.cost, 12)
+        for dates in ("m8[ns]", "M8[ns]"):
+            with self.assertRaisesRegex(ValueError, "this one has dates or times"):
+                solve_arrays(tails, heads, caps.astype(dates), costs, supplies)
 
     def test_refused(self) -> None:
         for place, entry, error, words in (

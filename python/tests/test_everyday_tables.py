@@ -260,6 +260,35 @@ class Workbooks(InFolder):
                 self.assertRegex(out + errors, wanted)
 
     @needs("openpyxl")
+    def test_rows_and_columns_without_a_size(self):
+        """Nobody sees them, as if they were hidden."""
+        for title, mark, size, wanted in (
+            ("a row", b'<row r="2"', b' ht="0" customHeight="1"', "1 row that is hidden counts as the others do"),
+            ("a low row", b'<row r="2"', b' ht="0.75" customHeight="1"', ""),
+            (
+                "a column",
+                b"<sheetData>",
+                b'<cols><col min="3" max="3" width="0" customWidth="1"/></cols>',
+                "the column 'capacity' is hidden, and is read as the others are",
+            ),
+        ):
+            path = book("book.xlsx", nodes=NODES, arcs=[HEAD, ["Kiel", "Berlin", 9, 2.5]])
+            with zipfile.ZipFile(path) as file:
+                parts = {name: file.read(name) for name in file.namelist()}
+            place = max(name for name in parts if name.startswith("xl/worksheets/sheet"))
+            at = mark if mark.startswith(b"<row") else b""
+            parts[place] = parts[place].replace(mark, at + size + mark[len(at) :])
+            self.assertIn(size, parts[place])
+            with zipfile.ZipFile(path, "w") as file:
+                for name, content in parts.items():
+                    file.writestr(name, content)
+            with self.subTest(title):
+                summary, notes = self.told(path)
+                self.assertEqual(summary, "0: cost 12.5")
+                self.assertIn(wanted, notes)
+                self.assertEqual("hidden" in notes, bool(wanted))
+
+    @needs("openpyxl")
     def test_names_that_are_dates_and_times(self):
         import datetime
 
@@ -342,6 +371,49 @@ class Workbooks(InFolder):
         self.assertRegex(run("f.xlsx")[2], "no workbook of the kind .xlsx")
 
     @needs("openpyxl")
+    def test_workbooks_that_are_damaged(self):
+        """They are refused, whatever is wrong with them, and nothing is written to them."""
+        path = book("book.xlsx", nodes=NODES, arcs=[HEAD, ["Kiel", "Berlin", 9, 2.5]])
+        whole = Path(path).read_bytes()
+        with zipfile.ZipFile(path) as file:
+            parts = {name: file.read(name) for name in file.namelist()}
+            at = file.getinfo("xl/worksheets/sheet1.xml").header_offset + 30 + len("xl/worksheets/sheet1.xml")
+
+        def without(name):
+            return {other: content for other, content in parts.items() if other != name}
+
+        sheet, styles = parts["xl/worksheets/sheet2.xml"], parts["xl/styles.xml"]
+        for title, made in (
+            ("bytes that are others", whole[: at + 20] + b"\xff\xff\xff\xff" + whole[at + 24 :]),
+            ("bytes that are not there", whole[: at + 100]),
+            ("a password", whole.replace(b"PK\x01\x02\x14\x03\x14\x00\x00\x00", b"PK\x01\x02\x14\x03\x14\x00\x01\x00")),
+            ("no sheet", without("xl/worksheets/sheet1.xml")),
+            ("no list of sheets", without("xl/_rels/workbook.xml.rels")),
+            ("a sheet that is no XML", {**parts, "xl/worksheets/sheet2.xml": sheet[:-20]}),
+            ("an unknown encoding", {**parts, "xl/styles.xml": b'<?xml version="1.0" encoding="no"?><a/>'}),
+            ("a style without number", {**parts, "xl/styles.xml": styles.replace(b'numFmtId="0"', b'numFmtId=""')}),
+            ("a cell beyond", {**parts, "xl/worksheets/sheet2.xml": sheet.replace(b'"D2"', b'"XFE2"')}),
+            ("a cell without letters", {**parts, "xl/worksheets/sheet2.xml": sheet.replace(b'"D2"', b'"2"')}),
+        ):
+            if isinstance(made, dict):
+                with zipfile.ZipFile("bad.xlsx", "w") as file:
+                    for name, content in made.items():
+                        file.writestr(name, content)
+            else:
+                Path("bad.xlsx").write_bytes(made)
+            before = Path("bad.xlsx").read_bytes()
+            with self.subTest(title):
+                self.assertNotEqual(before, whole)
+                for words in (["bad.xlsx"], [path, "--table", "bad.xlsx:plan"], [path, "--table", "bad.xlsx"]):
+                    status, _, errors = run(*words)
+                    self.assertIn((status, "mcf-plan: " in errors), ((3, True), (0, False)))
+                    if words == ["bad.xlsx"]:
+                        self.assertRegex(errors, "mcf-plan: bad.xlsx: .*(damaged|can't be read)")
+                    if status:
+                        self.assertEqual(Path("bad.xlsx").read_bytes(), before)
+                    Path("bad.xlsx").write_bytes(before)
+
+    @needs("openpyxl")
     def test_a_plan_as_a_sheet(self):
         import openpyxl
 
@@ -379,6 +451,19 @@ class Workbooks(InFolder):
         self.assertTrue(Path("book.xlsx").is_symlink())
         self.assertEqual(openpyxl.load_workbook(kept).sheetnames, ["nodes", "arcs", "plan"])
         self.assertEqual(kept.stat().st_mode & 0o777, 0o600)
+
+    @needs("openpyxl")
+    def test_files_beside_a_workbook_are_kept(self):
+        path = book("book.xlsx", nodes=NODES, arcs=[HEAD, ["Kiel", "Berlin", 9, 2.5]])
+        beside = Path("book.xlsx.new")
+        beside.write_text("mine")
+        self.assertEqual(self.told(path, "--table", "book.xlsx:plan"), ("0: cost 12.5", ""))
+        self.assertEqual(beside.read_text(), "mine")
+        self.assertEqual(self.told(path, "--table", "new.xlsx")[0], "0: cost 12.5")
+        self.assertEqual(sorted(each.name for each in Path().iterdir()), ["book.xlsx", "book.xlsx.new", "new.xlsx"])
+        self.assertEqual(Path("new.xlsx").stat().st_mode, beside.stat().st_mode)
+        _, _, errors = run(path, "--table", "nowhere/plan.xlsx")
+        self.assertTrue(errors.endswith("nowhere/plan.xlsx: No such file or directory\n"), errors)
 
     @needs("openpyxl")
     def test_tables_that_are_not_written(self):
@@ -533,7 +618,7 @@ class Frames(unittest.TestCase):
     def test_short_floats(self):
         import pandas
 
-        for dtype in ("float32", "float16", "Float32"):
+        for dtype in ("float32", "float16", "Float32", "Sparse[float]", "Sparse[float32]"):
             with self.subTest(dtype):
                 nodes = pandas.DataFrame({"name": [7.0, 8.0], "supply": [0.5, -0.5]}).astype(dtype)
                 arcs = pandas.DataFrame(
@@ -593,6 +678,27 @@ class Frames(unittest.TestCase):
                 problem = read_tables(nodes, arcs)
                 self.assertEqual(problem.solve().cost, Decimal("12.5"))
                 self.assertRegex("\n".join(problem.notes), wanted)
+
+    @needs("pandas")
+    def test_rows_with_a_name_in_the_index_alone(self):
+        """They are no blank rows: an arc without a cost is refused there too, and a node keeps its place."""
+        import pandas
+
+        nodes = pandas.DataFrame({"supply": [5, -5, None]}, index=["Kiel", "Berlin", "Ulm"])
+        arcs = pandas.DataFrame([["Kiel", "Berlin", 9, 2.5], ["Berlin", "Kiel", None, None]], columns=HEAD)
+        arcs = arcs.set_index(HEAD[:2])
+        with self.assertRaisesRegex(TableFault, "row .'Berlin', 'Kiel'., column 'cost': .* the cost of a unit was"):
+            read_tables(nodes, arcs)
+        for index in (nodes, nodes.rename_axis("town")):
+            problem = read_tables(index, arcs, default_cost=0)
+            self.assertEqual(list(problem.nodes), ["Kiel", "Berlin", "Ulm"])
+            self.assertEqual(len(problem.arcs), 2)
+        towns = nodes.rename_axis("town").reset_index().set_index("town", drop=False)
+        self.assertEqual(list(read_tables(towns, arcs.iloc[:1]).nodes), ["Kiel", "Berlin", "Ulm"])
+        with self.assertRaisesRegex(TableFault, "the columns 'town' and 'town' both look like the name of the node"):
+            read_tables(towns.assign(town=["Ulm", "Kiel", "Berlin"]), arcs.iloc[:1])
+        blank = nodes.rename_axis("town").rename(index={"Ulm": None})
+        self.assertEqual(list(read_tables(blank, arcs.iloc[:1]).nodes), ["Kiel", "Berlin"])
 
     @needs("pandas")
     def test_messages_say_which_frame(self):
@@ -660,6 +766,11 @@ class Maps(InFolder):
                 [kiel, berlin, line(ends[0], [13.41, 52.5], **road)],
                 "feature 3: .* no point .* 13.41, 52.5",
             ),
+            (
+                "nearly at the end",
+                [kiel, berlin, line(ends[0], [13.4, 52.50000001], **road)],
+                "feature 3: .* no point .* 13.4, 52.50000001",
+            ),
             ("two at one place", [kiel, point(ends[0], name="Kiel 2"), line(*ends, **road)], "stand at one place"),
             (
                 "German",
@@ -710,7 +821,11 @@ class Maps(InFolder):
                 ],
                 "cost 12.5",
             ),
-            ("nothing in place of a feature", [kiel, berlin, None, line(*ends, **road)], "cost 12.5"),
+            (
+                "nothing in place of a feature",
+                [kiel, berlin, None, line(*ends, **road)],
+                "cost 12.5[^:]*\n(.*\n)*note: .* 1 of its features without a geometry is left aside",
+            ),
             ("no geometry", [kiel, berlin, {**area, "geometry": [1, 2]}], "feature 3: its geometry and its properties"),
             ("no properties", [kiel, {**berlin, "properties": ["name"]}], "feature 2: its geometry and its properties"),
             (

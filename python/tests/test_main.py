@@ -104,6 +104,7 @@ class Command(unittest.TestCase):
         text = self.file("max.min", "p max 2 1\nn 1 s\nn 2 t\na 1 2 9\n")
         for words, wanted in (
             (("--kind", "asn"), "--kind asn is said, and the kind of this text is max"),
+            (("--kind", "min"), "--kind min is said, and the kind of this text is max"),
             (("--kind", "max", "--source", "2", "--sink", "1"), "--source 2 is said, and the source of this text is 1"),
         ):
             with self.subTest(words):
@@ -115,6 +116,22 @@ class Command(unittest.TestCase):
         self.assertIn("the kind of this text is min", self.run_it("plan", other, "--kind", "max", status=3)[1])
         self.assertIn("the source of this text is none", self.run_it("plan", other, "--source", "1", status=3)[1])
 
+    def test_what_is_said_of_tables_for_a_text(self):
+        """It would be passed over, and is refused."""
+        text = str(TOP / "examples/diamond/problem.min")
+        for words in (
+            ("--columns", "cost=fee"),
+            ("--decimal", ","),
+            ("--default-cost", "0"),
+            ("--encoding", "cp1252"),
+        ):
+            with self.subTest(words):
+                _, errors = self.run_it("plan", text, *words, status=3)
+                self.assertIn(f"problem.min: {words[0]} is said, and this is a problem text", errors)
+        self.run_it("plan", text, "--round", "0", "--kind", "min")
+        _, errors = self.run_it("plan", self.nodes, self.arcs, "--source", "Kiel", "--sink", "Ulm", status=3)
+        self.assertIn("--source Kiel is said, and a maximum flow alone has one", errors)
+
     def test_other_forms_of_letters(self):
         nodes, arcs = self.file("n.csv", "name,supply\nK\u00f6ln,1\nUlm,-1\n"), self.file(
             "a.csv", "from,to,cost\nK\u00f6ln,Ulm,2\n"
@@ -125,6 +142,39 @@ class Command(unittest.TestCase):
             ("ranges", nodes, arcs, "--supplies", "--beside", "Ko\u0308ln"),
         ):
             self.run_it(*words)
+
+    def test_letters_that_the_output_does_not_have(self):
+        """They are printed by their numbers, in JSON too, and the files that were asked for have them."""
+        nodes = self.file("orte.csv", "town,supply\nKöln,5\n東京,-2\n🚢,-3\n")
+        arcs = self.file("wege.csv", "from,to,capacity,cost\nKöln,東京,9,2\nKöln,🚢,,1\n")
+        for settings in (
+            {"PYTHONIOENCODING": "ascii"},
+            {"PYTHONIOENCODING": "ascii:strict"},
+            {"LC_ALL": "C", "PYTHONUTF8": "0", "PYTHONCOERCECLOCALE": "0"},
+        ):
+            with self.subTest(settings), mock.patch.dict(os.environ, settings):
+                out, _ = self.run_it("plan", nodes, arcs, "--table", "plan.csv")
+                self.assertIn("\nK\\u00f6ln  \\u6771\\u4eac     2         9     2\n", out)
+                self.assertIn("\nK\\u00f6ln  \\ud83d\\udea2      3               1\n", out)
+                table = (Path(self.folder.name) / "plan.csv").read_text(encoding="utf-8")
+                self.assertIn("Köln,🚢,", table)
+                told = json.loads(self.run_it("plan", nodes, arcs, "--json")[0])
+                self.assertEqual([arc["to"] for arc in told["arcs"]], ["東京", "🚢"])
+                self.assertIn("K\\u00f6ln", self.run_it("ranges", nodes, arcs)[0])
+                self.assertIn("K\\u00f6ln", self.run_it("sweep", nodes, arcs, "--cap", "#1", "--values", "9")[0])
+                self.run_it("plan", "--columns", "cost=Größe", nodes, arcs, status=3)
+        with mock.patch.dict(os.environ, {"PYTHONIOENCODING": "ascii:replace"}):
+            self.assertIn("\nK?ln  ??     2         9     2\n", self.run_it("plan", nodes, arcs)[0])
+
+    def test_input_that_is_no_letter(self):
+        """It is refused on its line alone, and a wrong answer is told whatever it has."""
+        with mock.patch.dict(os.environ, {"PYTHONIOENCODING": "ascii"}):
+            out, _ = self.run_it("what-if", self.nodes, self.arcs, text="cap straße 1\ncap road 1\n")
+        self.assertIn("refused, nothing is changed: there is no arc stra\\xc3\\x9fe", out)
+        self.assertIn("cost 14.25 (2.75 more)", out)
+        (Path(self.folder.name) / "answer").write_bytes(b"s 14\n\xdf\n")
+        _, errors = self.run_it("explain", str(TOP / "examples/diamond/problem.min"), "--answer", "answer", status=3)
+        self.assertNotIn("codec", errors)
 
     def test_streams_that_are_closed(self):
         for words, closed, status, out, errors in (
@@ -147,6 +197,30 @@ class Command(unittest.TestCase):
                 self.assertEqual(done.returncode, status, done.stderr)
                 self.assertEqual((done.stdout[: len(out)], done.stderr[: len(errors)]), (out, errors))
                 self.assertEqual((bool(done.stdout), bool(done.stderr)), (bool(out), bool(errors)))
+
+    def test_streams_that_take_nothing(self):
+        """The status is the one that is documented, and nothing of Python's is said."""
+        for words, where, status in (
+            (("--help",), ">/dev/full", 4),
+            (("plan", "--help"), ">/dev/full", 4),
+            (("--version",), ">/dev/full", 4),
+            (("plan", self.nodes, self.arcs), ">/dev/full", 4),
+            (("plan", self.nodes, "nothing.csv"), "2>/dev/full", 4),
+            (("plan", self.arcs, self.arcs), "2>/dev/full", 3),
+            (("plan", "--nonsense"), "2>/dev/full", 2),
+            (("plan", "--nonsense"), ">/dev/full", 2),
+        ):
+            for buffered in ("", "1"):
+                with self.subTest(f"{words} {where}"), mock.patch.dict(os.environ, {"PYTHONUNBUFFERED": buffered}):
+                    done = subprocess.run(
+                        ["sh", "-c", f'exec "$@" {where}', "sh", COMMAND, *words],
+                        capture_output=True,
+                        text=True,
+                        check=False,
+                    )
+                    self.assertEqual(done.returncode, status, done.stderr)
+                    self.assertNotIn("Traceback", done.stderr)
+                    self.assertNotIn("Exception", done.stderr)
 
     def test_files_that_cannot_be_written(self):
         """What was asked for is not all there, so nothing is printed."""
@@ -343,10 +417,12 @@ class Command(unittest.TestCase):
 
     def test_tables_are_kept(self):
         """What is asked for takes the place of no table that is read."""
+        chart = Path(self.folder.name) / "chart.svg"
+        chart.symlink_to(self.arcs)
         for command, *words in (
             ("plan", "--table", self.arcs),
             ("sweep", "--cap", "road", "--values", "1", "--table", self.nodes),
-            ("sweep", "--cap", "road", "--values", "1", "--chart", self.arcs),
+            ("sweep", "--cap", "road", "--values", "1", "--chart", str(chart)),
             ("convert", "-o", self.arcs),
         ):
             with self.subTest(words):
@@ -360,6 +436,20 @@ class Command(unittest.TestCase):
         out, _ = self.run_it("what-if", self.nodes, self.arcs, "--commands", commands)
         self.assertEqual(out.count("refused, nothing is changed: arcs.csv: this would take the place of a table"), 4)
         self.assertEqual((Path(self.nodes).read_text(), Path(self.arcs).read_text()), (NODES, ARCS))
+        for name, option in (("report.html", "--report"), ("plan.svg", "--picture")):
+            (Path(self.folder.name) / name).symlink_to(self.arcs)
+            self.assertIn("take the place", self.run_it("plan", self.nodes, self.arcs, option, name, status=3)[1])
+        _, errors = self.run_it("plan", self.nodes, self.arcs, "--report", "./a", "--picture", "a", status=3)
+        self.assertIn("the report and the picture would be one file", errors)
+        text = self.file("problem", "p min 2 1\nn 1 1\nn 2 -1\na 1 2 0 9 1\n")
+        for words in (
+            ("plan", text, "--report", text),
+            ("sweep", text, "--cap", "#1", "--values", "1", "--chart", text),
+        ):
+            self.assertIn("take the place of the text", self.run_it(*words, status=3)[1])
+        out, _ = self.run_it("what-if", text, text=f"proof {text}\nreport {text}\nwrite {text}\n")
+        self.assertEqual((out.count("refused"), out.count("written")), (2, 1))
+        self.run_it("convert", text, "-o", text)
         texts = self.file("nodes.txt", NODES), self.file("arcs.txt", ARCS)
         self.assertIn("take the place", self.run_it("convert", *texts, "-o", texts[1], status=3)[1])
         problem = self.file("same.min", "p min 2 1\na 1 2 0 9 1\n")
@@ -492,6 +582,14 @@ class Command(unittest.TestCase):
         out, _ = self.run_it("what-if", str(TOP / "examples/deliveries/problem.min"), text="cap 1 3 2\nsupply 5 -6\n")
         self.assertIn("cost 86 (20 more)", out)
         self.assertIn("no plan: short by 1", out)
+        out, _ = self.run_it("what-if", self.nodes, self.arcs, text="\ufeffcap road 1\n")
+        self.assertIn("what if> cap road 1\ncost 14.25 (2.75 more)", out)
+
+    def test_the_file_of_commands_is_kept(self):
+        lines = "".join(f"{word} commands\n" for word in ("write", "proof", "report"))
+        out, _ = self.run_it("what-if", self.nodes, self.arcs, "--commands", self.file("commands", lines))
+        self.assertEqual(out.count("refused, nothing is changed: commands: this would take the place of the text"), 3)
+        self.assertEqual((Path(self.folder.name) / "commands").read_text(), lines)
 
     def slow_program(self):
         """The environment with a program that never answers, which writes its number to the file that is returned."""
@@ -578,6 +676,11 @@ class Command(unittest.TestCase):
             (("what-if", "--time-limit", "soon"), "'soon' is no number of seconds above 0"),
             (("plan", "--picture", "a.png"), "'a.png' ends with .png, and a picture is SVG (.svg)"),
             (("plan", "--report", "a.pdf"), "'a.pdf' ends with .pdf, and a report is a page of HTML (.html)"),
+            (("sweep", "--values", "1", "--chart", "a.png"), "'a.png' ends with .png, and a chart is SVG (.svg)"),
+            (("plan", "--report", ""), "argument --report: the name of a file is empty"),
+            (("plan", "--table", ""), "argument --table: the name of a file is empty"),
+            (("what-if", "--commands", ""), "argument --commands: the name of a file is empty"),
+            (("convert", "-o", ""), "argument -o/--output: the name of a file is empty"),
             (("plan", "--reports", "a"), "unrecognized arguments: --reports a; `mcf-plan --help` tells more"),
             (("board", "--port", "99999"), "'99999' is no port"),
             (("board", "--port", "-1"), "'-1' is no port"),

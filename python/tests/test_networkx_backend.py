@@ -111,6 +111,24 @@ class NetworkxBackend(unittest.TestCase):
             self.assertEqual(nx.cost_of_flow(G, ours), nx.cost_of_flow(G, theirs))
             self.assertEqual(sum(ours[0].values()), sum(theirs[0].values()))
 
+    def test_maximum_flow_of_least_cost_beside_demands(self) -> None:
+        """Other nodes' demands count as networkx counts them."""
+        import networkx as nx
+
+        G = nx.DiGraph()
+        G.add_node("a", demand=-9)
+        G.add_node("depot", demand=-2)
+        G.add_node("shop", demand=2)
+        G.add_edge("a", "b", capacity=3, weight=1)
+        G.add_edge("depot", "shop", weight=4)
+        for demand in (2, 3):
+            G.nodes["shop"]["demand"] = demand
+            ours = answered(backend.max_flow_min_cost, G, "a", "b")
+            self.assertEqual(ours, answered(nx.max_flow_min_cost, G, "a", "b"))
+            self.assertEqual(G.nodes["a"], {"demand": -9})
+        G.nodes["shop"]["demand"] = 2
+        self.assertEqual(backend.max_flow_min_cost(G, "a", "b")["depot"], {"shop": 2})
+
     def test_numbers(self) -> None:
         import networkx as nx
 

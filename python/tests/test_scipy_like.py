@@ -84,6 +84,9 @@ class ScipyLike(unittest.TestCase):
             ([[1e-30, 1.0]], BeyondLimits),
         ]:
             self.assertRaises(error, linear_sum_assignment, np.array(matrix))
+        for kind in ("m8[ns]", "M8[ns]", "c16"):
+            with self.assertRaisesRegex(ValueError, "expected a matrix containing numerical entries"):
+                linear_sum_assignment(np.array([[1, 2], [3, 4]]).astype(kind))
         with self.assertRaises(TimeLimit):
             linear_sum_assignment([[1]], time_limit=0)
 

@@ -294,6 +294,8 @@ def _listed(column: Column) -> List[Any]:
     if isinstance(column, (Mapping, Set)):
         raise ValueError(f"a column is a list or an array, and this one is of type {type(column).__name__}")
     if hasattr(column, "tolist"):
+        if getattr(getattr(column, "dtype", None), "kind", "") in ("m", "M"):
+            raise ValueError("a column has whole numbers, and this one has dates or times")
         entries = column.tolist()
         if not isinstance(entries, list) or entries and isinstance(entries[0], list):
             raise ValueError("a column has one dimension")

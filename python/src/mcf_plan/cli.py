@@ -3,13 +3,15 @@
 from __future__ import annotations
 
 import argparse
+import codecs
+import json
 import os
 import re
 import sys
 import tempfile
-from contextlib import ExitStack
+from contextlib import ExitStack, suppress
 from decimal import Decimal
-from io import StringIO
+from io import StringIO, TextIOWrapper
 from pathlib import Path
 from typing import Callable, Dict, Iterable, List, NoReturn, Optional, TextIO, Tuple
 
@@ -18,7 +20,7 @@ from .conversation import Conversation
 from .deadline import MOST_SECONDS, alarm, lift_alarm
 from .dimacs import Fault, find_answer_fault, find_fault, parse_problem
 from .explain import explain
-from .formats import as_str
+from .formats import as_bytes, as_str
 from .hints import PACKED
 from .meaning import amounts_of, taken_for
 from .plan import Disagreement, Plan
@@ -26,7 +28,7 @@ from .printing import of_system, say, tell, visible
 from .problem import Problem, exact, plain
 from .program import Program, ProgramFailed, Refused, TimeLimit
 from .progress import Progress
-from .questions import add_ranges, add_sweep, joined_values, run_ranges, run_sweep
+from .questions import add_ranges, add_sweep, file_named, joined_values, run_ranges, run_sweep
 from .rewrite import BeyondLimits, CannotRewrite, Options, Surplus, Unbounded, rewrite, solve
 from .rounding import MOST_DECIMALS, round_problem
 from .session import EditRefused, Session
@@ -36,6 +38,8 @@ from .tables import COLUMNS, TableFault, check_kept, check_output, read_tables, 
 
 NO_PLAN, USAGE, REFUSED, FAILED, UNBOUNDED, BEYOND, DISAGREE, TOO_LONG, INTERRUPTED = 1, 2, 3, 4, 6, 7, 8, 124, 130
 MOST_PORT = 65_535
+USUAL_ERRORS = ("strict", "surrogateescape", "backslashreplace")
+"""What Python does, where nobody says otherwise, with a letter that an encoding does not have."""
 
 STATUSES = """status:
   0    done
@@ -54,13 +58,24 @@ def main(arguments: Optional[List[str]] = None) -> int:
     """Runs the command and returns its status. A signal that asks the process to end does so."""
     if not _streams_are_open():
         return _say("the output is closed", FAILED)
-    options = _parser().parse_args(joined_values(sys.argv[1:] if arguments is None else arguments))
+    _take_all_letters()
     try:
         with hearing():
-            return _run(options)
+            return _run(sys.argv[1:] if arguments is None else arguments)
     except Terminated as ended:
         die_of(ended.number)
         return 128 + ended.number
+    finally:
+        _let_go()
+
+
+def _let_go() -> None:
+    """Forgets what could not be printed: Python would try once more at its end, and take another status."""
+    for stream in (sys.stdout, sys.stderr):
+        try:
+            stream.flush()
+        except OSError:
+            os.dup2(os.open(os.devnull, os.O_WRONLY), stream.fileno())
 
 
 def _streams_are_open() -> bool:
@@ -72,9 +87,27 @@ def _streams_are_open() -> bool:
     return getattr(sys, "stdout") is not None
 
 
-def _run(options: argparse.Namespace) -> int:
+def _take_all_letters() -> None:
+    """Lets no letter end a command: one that the encoding of the output does not have is printed by its number, and a
+    byte of the input that is no letter is refused with its line."""
+    codecs.register_error("mcf_plan", _by_number)
+    for stream, errors in ((sys.stdin, "surrogateescape"), (sys.stdout, "mcf_plan"), (sys.stderr, "mcf_plan")):
+        # Where somebody asked for `replace`, say, by PYTHONIOENCODING, that stays.
+        if isinstance(stream, TextIOWrapper) and stream.errors in USUAL_ERRORS:
+            stream.reconfigure(errors=errors)
+
+
+def _by_number(error: UnicodeError) -> Tuple[str, int]:
+    """Letters that can't be encoded, by their numbers as JSON has them, which goes on behind them."""
+    if not isinstance(error, UnicodeEncodeError):
+        raise error
+    return json.dumps(error.object[error.start : error.end])[1:-1], error.end
+
+
+def _run(arguments: List[str]) -> int:
     """Runs a command, and tells what went wrong."""
     try:
+        options = _options(arguments)
         # In a conversation each edit has its own limit.
         limit = None if options.run in (_what_if, _board) else getattr(options, "time_limit", None)
         with alarm(limit):
@@ -96,7 +129,6 @@ def _run(options: argparse.Namespace) -> int:
     except KeyboardInterrupt:
         return _say("interrupted", INTERRUPTED)
     except BrokenPipeError:
-        sys.stderr.close()
         return FAILED
     except MemoryError:
         return _say("out of memory", FAILED)
@@ -106,8 +138,18 @@ def _run(options: argparse.Namespace) -> int:
         return _say(str(error), REFUSED)
 
 
+def _options(arguments: List[str]) -> argparse.Namespace:
+    """What the command line says. Raises OSError where help is asked for and can't be printed."""
+    try:
+        return _parser().parse_args(joined_values(arguments))
+    finally:
+        sys.stdout.flush()
+
+
 def _say(words: str, status: int) -> int:
-    say(f"mcf-plan: {words}", sys.stderr)
+    # The status tells it too, where nothing can be said.
+    with suppress(OSError):
+        say(f"mcf-plan: {words}", sys.stderr)
     return status
 
 
@@ -116,8 +158,8 @@ def _kept(error: Disagreement) -> str:
     if not error.problem_text:
         return ""
     folder = Path(tempfile.mkdtemp(prefix="mcf-plan-"))
-    (folder / "problem").write_text(error.problem_text)
-    (folder / "answer").write_text(error.answer_text)
+    (folder / "problem").write_bytes(as_bytes(error.problem_text))
+    (folder / "answer").write_bytes(as_bytes(error.answer_text))
     return f"; the texts are kept in {folder}, please report them"
 
 
@@ -128,7 +170,8 @@ class _Parser(argparse.ArgumentParser):
     """A parser whose refusals say where to read more."""
 
     def error(self, message: str) -> NoReturn:
-        self.print_usage(sys.stderr)
+        with suppress(OSError):
+            self.print_usage(sys.stderr)
         sys.exit(_say(f"{message}; `{self.prog} --help` tells more", USAGE))
 
 
@@ -155,13 +198,18 @@ def _parser() -> argparse.ArgumentParser:
     plan.add_argument("--report", metavar="FILE", type=_page, help="write a report with a picture (.html)")
     plan.add_argument("--picture", metavar="FILE", type=_picture, help="write the picture alone (.svg)")
     plan.add_argument(
-        "--table", metavar="FILE", help="write the plan as a table (.csv, .tsv, .xlsx, or book.xlsx:SHEET)"
+        "--table",
+        metavar="FILE",
+        type=file_named,
+        help="write the plan as a table (.csv, .tsv, .xlsx, or book.xlsx:SHEET)",
     )
     plan.add_argument("--json", action="store_true", help="print it as JSON")
     plan.add_argument("--title", default="Plan", help="the report's title")
 
     what_if = command("what-if", _what_if, "ask what would be if, at a prompt or from a file", tables=True)
-    what_if.add_argument("--commands", metavar="FILE", help="read the commands from a file in place of the prompt")
+    what_if.add_argument(
+        "--commands", metavar="FILE", type=file_named, help="read the commands from a file in place of the prompt"
+    )
 
     board = command("board", _board, "serve the what-if page on this computer alone", tables=True)
     board.add_argument("--port", type=_port, default=0, help="the port, up to 65535; without it a free one")
@@ -169,7 +217,10 @@ def _parser() -> argparse.ArgumentParser:
 
     why = command("explain", _explain, "say why there is no plan", tables=True)
     why.add_argument(
-        "--answer", metavar="FILE", help="explain this answer of mcf to the problem text, in place of solving"
+        "--answer",
+        metavar="FILE",
+        type=file_named,
+        help="explain this answer of mcf to the problem text, in place of solving",
     )
 
     check = command("check", _check, "check an answer to a problem text, whoever made it", tables=False)
@@ -190,7 +241,9 @@ def _parser() -> argparse.ArgumentParser:
     convert = command(
         "convert", _convert, "write tables, or a text of another program, as a text that mcf reads", tables=True
     )
-    convert.add_argument("-o", "--output", metavar="FILE", help="write to a file in place of the output")
+    convert.add_argument(
+        "-o", "--output", metavar="FILE", type=file_named, help="write to a file in place of the output"
+    )
 
     ranges = command(
         "ranges", _ranges, "say what one unit more saves, and within which costs the plan stays best", tables=True
@@ -211,8 +264,7 @@ def _add_tables(parser: argparse.ArgumentParser) -> None:
     parser.add_argument(
         "--kind",
         choices=["min", "max", "asn"],
-        default="min",
-        help="least cost (min), maximum flow (max) or assignment (asn)",
+        help="least cost (min, where nothing is said), maximum flow (max) or assignment (asn)",
     )
     parser.add_argument("--source", metavar="NODE", help="where a maximum flow starts")
     parser.add_argument("--sink", metavar="NODE", help="where it ends")
@@ -306,20 +358,12 @@ def _seconds(text: str) -> float:
 
 def _page(text: str) -> str:
     """What `--report` says."""
-    return _named(text, "a report is a page of HTML", (".html", ".htm"))
+    return file_named(text, "a report is a page of HTML", (".html", ".htm"))
 
 
 def _picture(text: str) -> str:
     """What `--picture` says."""
-    return _named(text, "a picture is SVG", (".svg",))
-
-
-def _named(text: str, words: str, endings: Tuple[str, ...]) -> str:
-    """A file's name that promises nothing else than what is written."""
-    ending = Path(text).suffix.lower()
-    if ending and ending not in endings:
-        raise argparse.ArgumentTypeError(f"'{text}' ends with {ending}, and {words} ({endings[0]})")
-    return text
+    return file_named(text, "a picture is SVG", (".svg",))
 
 
 def _port(text: str) -> int:
@@ -356,13 +400,24 @@ def _read_source(options: argparse.Namespace) -> Problem:
     if len(tables) > 2:
         raise TableFault(f"{len(tables)} tables are given, and there are two: that of nodes, then that of arcs")
     if len(tables) == 1 and not is_table(tables[0]):
+        for what, unused in (
+            ("columns", options.columns),
+            ("decimal", options.decimal),
+            ("default-cost", options.default_cost),
+            ("encoding", options.encoding),
+        ):
+            if unused not in (None, []):
+                raise TableFault(
+                    f"{tables[0]}: --{what} is said, and this is a problem text, which is read in one way alone; a "
+                    "table ends in .csv, .tsv, .xlsx or .geojson"
+                )
         problem = _read_problem_text(tables[0])
         for what, said, own in (
             ("kind", options.kind, problem.kind),
             ("source", options.source, problem.source),
             ("sink", options.sink, problem.sink),
         ):
-            if said not in (None, "min", own):
+            if said not in (None, own):
                 raise TableFault(
                     f"{tables[0]}: --{what} {said} is said, and the {what} of this text is {own or 'none'}"
                 )
@@ -371,13 +426,15 @@ def _read_source(options: argparse.Namespace) -> Problem:
     for what, name in (("--source", options.source), ("--sink", options.sink)):
         if options.kind == "max" and name is None:
             raise TableFault(f"a maximum flow wants {what} NODE")
+        if options.kind != "max" and name is not None:
+            raise TableFault(f"{what} {name} is said, and a maximum flow alone has one: say `--kind max` too")
     columns: Dict[str, List[str]] = {}
     for what, name in (pair for pairs in options.columns for pair in pairs):
         columns.setdefault(what, []).append(name)
     return read_tables(
         tables[0] if len(tables) == 2 else None,
         tables[-1],
-        kind=options.kind,
+        kind=options.kind or "min",
         balance=options.balance,
         source=options.source,
         sink=options.sink,
@@ -406,6 +463,11 @@ def _plan(options: argparse.Namespace) -> int:
 
     if options.table:
         check_output(options.table, options.tables)
+    pages = [name for name in (options.report, options.picture) if name]
+    for page in pages:
+        check_kept(page, options.tables)
+    if len(set(map(os.path.realpath, pages))) < len(pages):
+        raise TableFault(f"{pages[0]}: the report and the picture would be one file; give each a name of its own")
     with Progress() as progress:
         progress.now("reading the tables")
         problem = _read_source(options)
@@ -439,8 +501,8 @@ def _explain(options: argparse.Namespace) -> int:
     problem = _read(options)
     if options.answer:
         rewriting = rewrite(problem, Options(options.surplus))
-        answer = sys.stdin.read() if options.answer == "-" else Path(options.answer).read_text()
-        result = rewriting.checked(answer, Program())
+        answer = sys.stdin.buffer.read() if options.answer == "-" else Path(options.answer).read_bytes()
+        result = rewriting.checked(as_str(answer), Program())
     else:
         result = solve(problem, Options(options.surplus))
     if isinstance(result, Plan):
@@ -523,14 +585,14 @@ def _tell_fault(fault: Fault, name: str, raw: bytes) -> None:
 
 def _convert(options: argparse.Namespace) -> int:
     if options.output:
-        check_kept(options.output, options.tables)
+        check_kept(options.output, options.tables, is_problem=True)
     problem = _read_source(options)
     _tell_notes(problem.notes)
     rewriting = rewrite(problem, Options(options.surplus))
     _tell_notes(rewriting.notes)
     lift_alarm()
     if options.output:
-        Path(options.output).write_text(rewriting.text)
+        Path(options.output).write_text(rewriting.text, encoding="utf-8")
     else:
         sys.stdout.write(rewriting.text)
     return 0
@@ -551,7 +613,7 @@ def _what_if(options: argparse.Namespace) -> int:
     with ExitStack() as stack:
         source = stack.enter_context(_commands(options.commands)) if options.commands else sys.stdin
         session = stack.enter_context(_opened(options))
-        Conversation(session, sys.stdout, source.isatty(), options.tables).run(source)
+        Conversation(session, sys.stdout, source.isatty(), options.tables, options.commands).run(source)
     return 0
 
 

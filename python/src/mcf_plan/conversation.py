@@ -77,13 +77,21 @@ def number(text: str) -> str:
 
 class Conversation:
     """A what-if session in words: `session` answers, `out` takes what is said. No file takes the place of one of the
-    tables `inputs`."""
+    tables `inputs`, nor of the file of `commands`."""
 
-    def __init__(self, session: Session, out: TextIO, is_terminal: bool = False, inputs: Sequence[str] = ()):
+    def __init__(
+        self,
+        session: Session,
+        out: TextIO,
+        is_terminal: bool = False,
+        inputs: Sequence[str] = (),
+        commands: Optional[str] = None,
+    ):
         self.session = session
         self.out = out
         self.is_terminal = is_terminal
         self.inputs = inputs
+        self.commands = commands
         self.marked: Dict[str, str] = {}
         self.group: Optional[ExitStack] = None
         self.before: Optional[Decimal] = None  # the cost where the group began
@@ -108,8 +116,8 @@ class Conversation:
             "saves": lambda words: self.saves(),
             "mark": lambda words: self.mark(one(words)),
             "moments": lambda words: self.moments(),
-            "write": lambda words: self.write(one(words), session.text),
-            "proof": lambda words: self.write(one(words), session.proof),
+            "write": lambda words: self.write(one(words), session.text, is_problem=True),
+            "proof": lambda words: self.write(one(words), session.proof, is_problem=False),
             "report": lambda words: self.report(one(words)),
             "table": lambda words: self.table(one(words)),
             "group": lambda words: self.open_group(),
@@ -134,7 +142,7 @@ class Conversation:
             self.say("`help` tells the commands")
         while True:
             try:
-                line = input("what if> ") if self.is_terminal else source.readline()
+                line = input("what if> ") if self.is_terminal else source.readline().lstrip("\ufeff")
             except EOFError:
                 self.say("")
                 break
@@ -325,9 +333,15 @@ class Conversation:
         for name in self.session.marks:
             self.say(f"{name}: {self.marked[name]}")
 
-    def write(self, name: str, text: Callable[[], str]) -> None:
+    def check_kept(self, name: str, *, is_problem: bool = False) -> None:
+        """Raises TableFault where a file would take the place of what is read."""
+        check_kept(name, self.inputs, is_problem=is_problem)
+        if self.commands:
+            check_kept(name, [self.commands])
+
+    def write(self, name: str, text: Callable[[], str], *, is_problem: bool) -> None:
         """Writes a text to a file."""
-        check_kept(name, self.inputs)
+        self.check_kept(name, is_problem=is_problem)
         Path(name).write_text(text(), encoding="utf-8")
         self.say(f"written to {name}")
 
@@ -335,13 +349,13 @@ class Conversation:
         """Writes the report to a file."""
         from .report import html_report
 
-        check_kept(name, self.inputs)
+        self.check_kept(name)
         html_report(self.session.plan(check=True), name)
         self.say(f"written to {name}")
 
     def table(self, name: str) -> None:
         """Writes the plan as a table to a file, where there is one."""
-        check_kept(name, self.inputs)
+        self.check_kept(name)
         result = self.session.plan(check=True)
         if isinstance(result, Infeasible):
             return self.say("there is no plan to write")

@@ -56,7 +56,9 @@ def read_map(path: Path) -> Tuple[Optional[Sheet], Optional[Sheet]]:
         _add_ends(arcs, lines, points)
     for kind, count in others.items():
         told = (arcs or nodes or Sheet(path.name, [], [], [])).notes
-        told.append(f"{path.name}: {count} of its features {'is' if count == 1 else 'are'} a {kind}, and left aside")
+        is_one = "is" if count == 1 else "are"
+        what = f"{is_one} a {kind}, and" if kind != "None" else f"without a geometry {is_one}"
+        told.append(f"{path.name}: {count} of its features {what} left aside")
     if nodes is None and arcs is None:
         raise TableFault(f"{path.name}: there are neither points nor lines")
     return nodes, arcs
@@ -157,7 +159,7 @@ def _add_ends(arcs: Sheet, lines: Sequence[_Feature], points: Sequence[_Feature]
             if end not in names:
                 raise TableFault(
                     f"{arcs.name}, feature {lines[row].number}: it has no property {what!r}, and no point with a name "
-                    f"stands exactly where it {'begins' if what == 'from' else 'ends'}, at {end[0]:g}, {end[1]:g}"
+                    f"stands exactly where it {'begins' if what == 'from' else 'ends'}, at {end[0]:.15g}, {end[1]:.15g}"
                 )
             cells[row] = names[end]
         arcs.columns[places[what]] = cells

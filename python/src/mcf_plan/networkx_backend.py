@@ -413,13 +413,12 @@ class Backend:
         *,
         time_limit: Optional[float] = None,
     ) -> Dict[Node, Any]:
-        """The flows of a maximum flow of least cost."""
+        """The flows of a maximum flow of least cost. As with networkx the maximum is that without demands, and demands
+        of nodes other than `s` and `t` are met beside it, or NetworkXUnfeasible says that they can't be."""
         import networkx as nx
 
         most = self.maximum_flow_value(G, s, t, capacity=capacity, time_limit=time_limit)
-        H = nx.DiGraph()
-        H.add_nodes_from(G)
-        H.add_edges_from(nx.DiGraph(G).edges(data=True))
+        H = nx.DiGraph(G)
         H.nodes[s]["demand"], H.nodes[t]["demand"] = -most, most
         return self.min_cost_flow(H, capacity=capacity, weight=weight, time_limit=time_limit)
 

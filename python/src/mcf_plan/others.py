@@ -21,6 +21,8 @@ from .dimacs import Answer, DimacsProblem, parse_answer, parse_problem
 from .formats import RETURN_CAPACITY, Text
 
 PROGRAMS = ("lemon", "glpk", "flows")
+MOST_DIGITS = 60
+"""So many has a number of an answer at most."""
 """Whose answers are read: see docs/OTHERS.md."""
 
 
@@ -216,11 +218,14 @@ def whole(word: str, line: int) -> int:
     """The whole number of a word, which may be written as 3.0 or 3e2."""
     try:
         value = Decimal(word)
-        if value == value.to_integral_value():
-            return int(value)
-    except (InvalidOperation, ValueError, OverflowError):
-        pass
-    raise NotAnAnswer(f"{word} is no whole number", line)
+    except InvalidOperation:
+        value = Decimal("NaN")
+    if value.is_finite() and value.adjusted() >= MOST_DIGITS:
+        # By a few digits of an exponent it may be a number that no memory holds.
+        raise NotAnAnswer(f"{word[:MOST_DIGITS]} has more than {MOST_DIGITS} digits", line)
+    if not value.is_finite() or value != value.to_integral_value():
+        raise NotAnAnswer(f"{word} is no whole number", line)
+    return int(value)
 
 
 def told_by_lines(problem: DimacsProblem, lines: List[Line]) -> Told:

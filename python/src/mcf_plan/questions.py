@@ -233,9 +233,26 @@ def add_sweep(parser: argparse.ArgumentParser) -> None:
     parser.add_argument("--to", dest="last", metavar="VALUE", type=_value, help="the last value")
     parser.add_argument("--step", metavar="VALUE", type=_value, default=Decimal(1), help="from value to value (1)")
     parser.add_argument("--values", metavar="V,V,..", type=_values, help="these values in place of a row")
-    parser.add_argument("--chart", metavar="FILE", help="write a chart (SVG)")
-    parser.add_argument("--table", metavar="FILE", help="write the values as a table (.csv, .tsv, .xlsx)")
+    parser.add_argument("--chart", metavar="FILE", type=_chart, help="write a chart (.svg)")
+    parser.add_argument(
+        "--table", metavar="FILE", type=file_named, help="write the values as a table (.csv, .tsv, .xlsx)"
+    )
     parser.add_argument("--json", action="store_true", help="print them as JSON")
+
+
+def file_named(text: str, words: str = "", endings: Tuple[str, ...] = ()) -> str:
+    """A file's name that promises nothing else than what is written, as an option says it."""
+    if not text:
+        raise argparse.ArgumentTypeError("the name of a file is empty")
+    ending = Path(text).suffix.lower()
+    if endings and ending and ending not in endings:
+        raise argparse.ArgumentTypeError(f"'{text}' ends with {ending}, and {words} ({endings[0]})")
+    return text
+
+
+def _chart(text: str) -> str:
+    """What `--chart` says."""
+    return file_named(text, "a chart is SVG", (".svg",))
 
 
 def joined_values(words: List[str]) -> List[str]:

@@ -88,6 +88,8 @@ class Table:
         self._check_short_rows()
         self._numbers: Optional[Numbers] = None
         self._names = _Names()
+        # Where columns are parted by commas, numbers have a decimal point unless they show something else.
+        self._point_is_usual = sheet.delimiter == ","
 
     def __len__(self) -> int:
         return len(self.sheet.lines)
@@ -211,6 +213,11 @@ class Table:
                 self._numbers = Numbers(self._decimal_sign())
         return self._numbers
 
+    def look_at(self, other: Table) -> None:
+        """Takes a decimal point for nothing usual where the other table of the problem shows a decimal comma."""
+        if self._point_is_usual and self.reading.decimal is None and other._reader().sign.mark == ",":
+            self._point_is_usual, self._numbers = False, None
+
     def _texts(self, columns: Iterable[str]) -> Iterable[str]:
         """The different texts in some columns."""
         cells: Dict[str, None] = {}
@@ -226,7 +233,7 @@ class Table:
         columns = [what for what in self.found.places if what not in ("node", "from", "to", "name", *PLACES)]
         cells = self._texts(columns)
         try:
-            return decimal_sign(cells, point_is_usual=sheet.delimiter == ",")
+            return decimal_sign(cells, point_is_usual=self._point_is_usual)
         except Undecided as doubt:
             row, what = self._where(doubt.cell, columns)
             if doubt.other:

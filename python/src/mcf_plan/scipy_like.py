@@ -42,7 +42,7 @@ def linear_sum_assignment(
     matrix = np.asarray(cost_matrix)
     if matrix.ndim != 2:
         raise ValueError(f"expected a matrix (2-D array), got a {matrix.ndim} array")
-    if not (np.issubdtype(matrix.dtype, np.number) or matrix.dtype == np.dtype(bool)):
+    if matrix.dtype.kind not in "biuf":
         if matrix.dtype.kind in "SU":
             raise TypeError(f"Cannot cast array data from {matrix.dtype!r} to dtype('float64') by the rule 'safe'")
         if matrix.dtype.kind != "O":

@@ -223,20 +223,24 @@ def sheet_of_frame(frame: Any, name: str) -> Sheet:
     header = [str(column).strip() for column in frame.columns]
     columns: List[Sequence[Any]] = [_cells_of(frame.iloc[:, place]) for place in range(len(header))]
     lines = frame.index.tolist()
-    kept = [number for number, row in enumerate(zip(*columns)) if any(not is_empty(cell) for cell in row)]
+    levels, index_name = getattr(frame.index, "nlevels", 1), frame.index.name
+    for level, title in enumerate(frame.index.names) if levels > 1 or index_name is not None else ():
+        labels = [line[level] for line in lines] if levels > 1 else lines
+        called = "" if title is None else str(title).strip()
+        # An index may repeat a column, as `set_index("name", drop=False)` makes it.
+        twins = [column for there, column in zip(header, columns) if there == called]
+        if list(map(str, labels)) not in [list(map(str, twin)) for twin in twins]:
+            header.append(called)
+            columns.append(labels)
+    has_names = levels == 1 and index_name is None and any(isinstance(line, str) for line in lines)
+    # A row is blank where its name, which may stand in the index, is empty too.
+    cells = [*columns, lines] if has_names else columns
+    kept = [number for number, row in enumerate(zip(*cells)) if any(not is_empty(cell) for cell in row)]
     if len(kept) != len(lines):
         columns = [[column[number] for number in kept] for column in columns]
         lines = [lines[number] for number in kept]
     sheet = Sheet(name, header, columns, [_row_label(line) for line in lines], "row")
-    index_name = frame.index.name
-    if getattr(frame.index, "nlevels", 1) > 1:
-        for level, name in enumerate(frame.index.names):
-            sheet.header.append(str(name if name is not None else ""))
-            sheet.columns.append([line[level] for line in lines])
-    elif index_name is not None:
-        sheet.header.append(str(index_name).strip())
-        sheet.columns.append(lines)
-    elif any(isinstance(line, str) for line in lines):
+    if has_names:
         sheet.index, sheet.index_name = lines, "the index"
     return sheet
 
@@ -244,6 +248,8 @@ def sheet_of_frame(frame: Any, name: str) -> Sheet:
 def _cells_of(column: Any) -> List[Any]:
     """The cells of a column of a frame. Short floats are taken as they are printed, as all others are: in 64 bits 0.1
     would become 0.10000000149011612."""
+    if hasattr(column, "sparse"):
+        column = column.sparse.to_dense()
     dtype = column.dtype
     if getattr(dtype, "kind", "") == "f" and dtype.itemsize < 8:
         return [cell if is_empty(cell) else float(str(cell)) for cell in column.array]

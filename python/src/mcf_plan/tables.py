@@ -75,6 +75,8 @@ def read_tables(
         node_table = Table(node_sheet, found, reading)
         _find_names(node_table, ends)
         compare_units({**_units(node_table), **_units(arc_table)})
+        node_table.look_at(arc_table)
+        arc_table.look_at(node_table)
         _read_nodes(problem, node_table, ends)
         for name in ends:
             if name not in problem.nodes and folded(name) in SUMS and name in tails:
@@ -353,16 +355,18 @@ def plan_rows(plan: Plan) -> List[Tuple[str, ...]]:
     return rows
 
 
-def check_kept(path: Union[str, Path], inputs: Sequence[str]) -> None:
+def check_kept(path: Union[str, Path], inputs: Sequence[str], *, is_problem: bool = False) -> None:
     """Raises TableFault where what is written would take the place of one of the tables `inputs`, or of a sheet that is
-    read; one alone may be a problem text, which a newer one may replace."""
+    read. One alone may be a problem text, which a problem that is written as one (`is_problem`) may replace."""
     file, sheet = part_sheet(path)
-    for each in inputs if len(inputs) != 1 or is_table(inputs[0]) else ():
+    is_text = len(inputs) == 1 and not is_table(inputs[0])
+    for each in () if is_text and is_problem else inputs:
         theirs, their_sheet = part_sheet(each)
         if not (file.exists() and theirs.exists() and file.samefile(theirs)):
             continue
         if sheet is None:
-            raise TableFault(f"{file.name}: this would take the place of a table that is read; write to another file")
+            what = "the text" if is_text else "a table"
+            raise TableFault(f"{file.name}: this would take the place of {what} that is read; write to another file")
         if sheet.casefold() in map(str.casefold, sheets_read(theirs, their_sheet)):
             raise TableFault(
                 f"{file.name}: the sheet {sheet!r} is read, and this would take its place; take another name"

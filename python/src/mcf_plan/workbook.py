@@ -8,11 +8,15 @@ as they are, to the byte: charts, pictures and the values of formulas stay.
 from __future__ import annotations
 
 import datetime
+import errno
 import os
 import posixpath
 import re
 import shutil
+import tempfile
 import zipfile
+import zlib
+from contextlib import contextmanager
 from pathlib import Path
 from typing import Any, Dict, FrozenSet, Iterator, List, NamedTuple, Sequence, Set, Tuple, Union
 from xml.etree import ElementTree
@@ -36,6 +40,8 @@ DAY_0_OF_1904 = datetime.datetime(1904, 1, 1)
 """The day from which workbooks count that began on old Macs."""
 MILLISECONDS = 86_400_000
 """So many has a day."""
+DAMAGED = (zipfile.BadZipFile, zlib.error, RuntimeError, EOFError, LookupError, ValueError, OSError)
+"""What reading a damaged archive, or one that is enciphered, ends in."""
 HEAD = '<?xml version="1.0" encoding="UTF-8" standalone="yes"?>\n'
 
 
@@ -74,20 +80,26 @@ def _listed(tabs: Sequence[_Tab]) -> str:
     return ", ".join(repr(tab.name) for tab in tabs)
 
 
-def _opened(path: Path) -> zipfile.ZipFile:
-    """The file as an archive, with the parts of a workbook."""
+@contextmanager
+def _opened(path: Path) -> Iterator[zipfile.ZipFile]:
+    """The file as an archive, with the parts of a workbook. Raises TableFault where it is none, or what is read of it is
+    damaged."""
     with open(path, "rb") as raw:
         begin = raw.read(8)
     if begin == b"\xd0\xcf\x11\xe0\xa1\xb1\x1a\xe1":
         raise TableFault(f"{path.name}: this is an old workbook (.xls), or one with a password; save it as .xlsx")
     try:
-        file = zipfile.ZipFile(path)
-    except zipfile.BadZipFile:
-        raise TableFault(f"{path.name}: this is no workbook, or it is damaged; save it as .xlsx again") from None
-    if WORKBOOK not in file.namelist():
-        file.close()
-        raise TableFault(f"{path.name}: this is no workbook of the kind .xlsx")
-    return file
+        with zipfile.ZipFile(path) as file:
+            if WORKBOOK not in file.namelist():
+                raise TableFault(f"{path.name}: this is no workbook of the kind .xlsx")
+            yield file
+    except TableFault:
+        raise
+    except DAMAGED as error:
+        if isinstance(error, OSError) and error.errno not in (None, errno.EINVAL):
+            raise
+        words = "this is no workbook, or it is damaged; save it as .xlsx again"
+        raise TableFault(f"{path.name}: {words} ({error})") from None
 
 
 def _parsed(file: zipfile.ZipFile, part: str) -> ElementTree.Element:
@@ -186,33 +198,33 @@ class _Reader:
                 yield f"the column {name!r} is hidden, and is read as the others are"
 
     def rows(self, part: str) -> Tuple[List[List[Any]], List[int]]:
-        """The rows of a sheet, filled up to the same width, and their numbers."""
+        """The rows of a sheet, each at least as wide as the first, and their numbers."""
         rows: List[Dict[int, Any]] = []
         lines: List[int] = []
         merged: List[str] = []
-        width = number = 0
+        number = 0
         try:
             with self.file.open(part) as raw:
                 for _, element in ElementTree.iterparse(raw):
-                    if _local(element) == "col" and element.get("hidden") in ("1", "true"):
+                    if _local(element) == "col" and _is_hidden(element, "width"):
                         first, last = int(element.get("min", "1")), int(element.get("max", "1"))
                         self.hidden_columns.update(range(first - 1, min(last, MOST_COLUMNS)))
                     elif _local(element) == "row":
                         cells = {place: cell for place, cell in self._cells(element) if not is_empty(cell)}
                         number = int(element.get("r") or number + 1)
                         if cells:
-                            self.hidden += element.get("hidden") in ("1", "true")
+                            self.hidden += _is_hidden(element, "ht")
                             self.struck += self._is_struck(element)
                             lines.append(number)
                             rows.append(cells)
-                            width = max(width, *cells)
                         element.clear()
                     elif _local(element) == "mergeCell":
                         merged.append(element.get("ref", ""))
             _mark_merged(dict(zip(lines, rows)), merged)
         except (ElementTree.ParseError, KeyError, ValueError, IndexError, zipfile.BadZipFile) as error:
             raise TableFault(f"{self.path.name}: the part {part} can't be read: {error}") from None
-        return [[cells.get(place, "") for place in range(width + 1)] for cells in rows], lines
+        width = max(rows[0]) if rows else 0
+        return [[cells.get(place, "") for place in range(max(width, *cells) + 1)] for cells in rows], lines
 
     def _is_struck(self, row: ElementTree.Element) -> bool:
         """Whether all that stands in a row is struck through."""
@@ -225,6 +237,8 @@ class _Reader:
             if _local(cell) == "c":
                 name = cell.get("r")
                 place = place + 1 if name is None else _place(name)
+                if not 0 <= place < MOST_COLUMNS:
+                    raise ValueError(f"there is no cell {name}")
                 yield place, self._value(cell)
 
     def _value(self, cell: ElementTree.Element) -> Any:
@@ -251,6 +265,11 @@ class _Reader:
         if look:
             return _date(float(text), self.day_0) if look == "date" else f"{float(text) * 100:g}%"
         return int(text) if re.fullmatch(r"-?\d{1,15}", text) else float(text)
+
+
+def _is_hidden(element: ElementTree.Element, size: str) -> bool:
+    """Whether nobody sees a row or a column: it is said to be hidden, or has no height or width."""
+    return element.get("hidden") in ("1", "true") or float(element.get(size, "1")) == 0
 
 
 def _place(name: str) -> int:
@@ -373,7 +392,7 @@ def _with_sheet(parts: List[Tuple[str, bytes]], name: str, sheet: bytes) -> List
     }
     ends = {"[Content_Types].xml": "Types", "xl/_rels/workbook.xml.rels": "Relationships", WORKBOOK: "sheets"}
     for part, text in added.items():
-        found = re.search(rf"</(\w+:)?{ends[part]}\s*>".encode(), contents[part])
+        found = re.search(rf"</(\w+:)?{ends[part]}\s*>".encode(), contents.get(part, b""))
         if not found:
             raise TableFault(f"the part {part} of the workbook can't be added to; write to another file")
         contents[part] = contents[part][: found.start()] + text.encode() + contents[part][found.start() :]
@@ -416,14 +435,16 @@ def _escaped(text: str) -> str:
 def _replace(path: Path, parts: Sequence[Tuple[str, bytes]]) -> None:
     """Writes the parts as a file that takes the place of the one that is there when it is whole, for whom that was
     there; a link stays one."""
-    path = path.resolve()
-    new = path.with_name(path.name + ".new")
+    kept = path.resolve()
     try:
-        with zipfile.ZipFile(new, "w", zipfile.ZIP_DEFLATED) as file:
-            for name, content in parts:
-                file.writestr(zipfile.ZipInfo(name), content, zipfile.ZIP_DEFLATED)
-        if path.exists():
-            shutil.copymode(path, new)
-        os.replace(new, path)
-    finally:
-        new.unlink(missing_ok=True)
+        # Made in a folder of its own beside it, so that no other file is in the way.
+        with tempfile.TemporaryDirectory(prefix=".mcf-plan-", dir=kept.parent) as folder:
+            new = Path(folder) / "book"
+            with zipfile.ZipFile(new, "w", zipfile.ZIP_DEFLATED) as file:
+                for name, content in parts:
+                    file.writestr(zipfile.ZipInfo(name), content, zipfile.ZIP_DEFLATED)
+            if kept.exists():
+                shutil.copymode(kept, new)
+            os.replace(new, kept)
+    except OSError as error:
+        raise OSError(error.errno, error.strerror, str(path)) from None
