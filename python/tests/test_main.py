@@ -48,6 +48,12 @@ def is_running(number):
         return False
 
 
+def run_over(streams, *words):
+    """Runs the command with its streams as a shell has them by these words, as `2>&-`."""
+    command = ["sh", "-c", f'exec "$@" {streams}', "sh", COMMAND, *words]
+    return subprocess.run(command, capture_output=True, text=True, check=False)
+
+
 class Command(unittest.TestCase):
     def setUp(self):
         self.folder = tempfile.TemporaryDirectory()
@@ -188,12 +194,7 @@ class Command(unittest.TestCase):
             (("plan", "-"), "<&-", 3, "", "mcf-plan: the problem: There is nothing in it."),
         ):
             with self.subTest(f"{words[0]} {closed}"):
-                done = subprocess.run(
-                    ["sh", "-c", f'exec "$@" {closed}', "sh", COMMAND, *words],
-                    capture_output=True,
-                    text=True,
-                    check=False,
-                )
+                done = run_over(closed, *words)
                 self.assertEqual(done.returncode, status, done.stderr)
                 self.assertEqual((done.stdout[: len(out)], done.stderr[: len(errors)]), (out, errors))
                 self.assertEqual((bool(done.stdout), bool(done.stderr)), (bool(out), bool(errors)))
@@ -212,12 +213,7 @@ class Command(unittest.TestCase):
         ):
             for buffered in ("", "1"):
                 with self.subTest(f"{words} {where}"), mock.patch.dict(os.environ, {"PYTHONUNBUFFERED": buffered}):
-                    done = subprocess.run(
-                        ["sh", "-c", f'exec "$@" {where}', "sh", COMMAND, *words],
-                        capture_output=True,
-                        text=True,
-                        check=False,
-                    )
+                    done = run_over(where, *words)
                     self.assertEqual(done.returncode, status, done.stderr)
                     self.assertNotIn("Traceback", done.stderr)
                     self.assertNotIn("Exception", done.stderr)
