@@ -9,7 +9,7 @@ use Rattle.dimacs_lines.specs.Stream.{first_fault, fault_among}
 use Rattle.dimacs_lines.specs.Fields.{words_of, IsNode}
 use Rattle.dimacs_lines.specs.Checks.{natural_in}
 use Rattle.answer_text.specs.declared.answer.FlowLine.{FlowLine}
-use Rattle.answer_text.specs.Answer.{Said, said_of, and_said, line_fault, answer_rule, read_value, read_flow, read_potential}
+use Rattle.answer_text.specs.Answer.{Said, said_of, and_said, answer_line_fault, answer_rule, read_value, read_flow, read_potential}
 use Rattle.answer_text.proofs.SaidLemmas.{said_of_push}
 use Rattle.std.proofs.lemmas.List.Folds.{list_all-append}
 use Rattle.dimacs_lines.proofs.Written.{is_plain, natural_written, integer_written, word_then, last_word, letter_then, number_read, integer_read, value_read}
@@ -17,7 +17,7 @@ use Rattle.dimacs_lines.proofs.Written.{is_plain, natural_written, integer_writt
 -- none of the lines is faulty, and with them what is said goes from the one to the other
 abbrev pub Reads : ℕ → ℕ → Said → List Line → Said → Type 0
 Reads nodes arcs s [] s' = s ≡ s'
-Reads nodes arcs s (l ∷ ls) s' = (m : Said) × (is_too_long l ≡ false) × (line_fault nodes arcs s l ≡ None) × (and_said s l ≡ m) × Reads nodes arcs m ls s'
+Reads nodes arcs s (l ∷ ls) s' = (m : Said) × (is_too_long l ≡ false) × (answer_line_fault nodes arcs s l ≡ None) × (and_said s l ≡ m) × Reads nodes arcs m ls s'
 
 pub Reads-append : (nodes arcs : ℕ) (ls ms : List Line) (s m s' : Said) → Reads nodes arcs s ls m → Reads nodes arcs m ms s' → Reads nodes arcs s (ls ++ ms) s'
 Reads-append nodes arcs [] ms s m s' a b = subst (λ (x : Said). Reads nodes arcs x ms s') (sym a) b
@@ -93,7 +93,7 @@ module _ (nodes arcs : ℕ) (few : nodes < 10 ^ 18) (w : ℤ) (done : List FlowL
       let e : length (signed_decimal l.flow) ≡ length (decimal x) = ap (λ (z : ℤ). length (signed_decimal z)) flow_is in
       short_line (f_line l) (omega (arith, a.short, b.short, c.short, e, length-append (decimal l.tail) (32 ∷ (decimal l.head ++ 32 ∷ signed_decimal l.flow)), length-append (decimal l.head) (32 ∷ signed_decimal l.flow)))
 
-  flow_faultless : line_fault nodes arcs (told w done []) (f_line l) ≡ None
+  flow_faultless : answer_line_fault nodes arcs (told w done []) (f_line l) ≡ None
   unfolding read_flow
   flow_faultless = rw (flow_words, lt_true (length done) arcs room, node_in nodes l.tail tail few, node_in nodes l.head head few, number_read x small) refl
 
@@ -130,7 +130,7 @@ module _ (nodes arcs : ℕ) (few : nodes < 10 ^ 18) (w : ℤ) (ls : List FlowLin
       let b = integer_written 18 p (omega arith) small (omega arith) in
       short_line (v_line id p) (omega (arith, a.short, b.short, length-append (decimal id) (32 ∷ signed_decimal p)))
 
-  potential_faultless : line_fault nodes arcs (told w ls done) (v_line id p) ≡ None
+  potential_faultless : answer_line_fault nodes arcs (told w ls done) (v_line id p) ≡ None
   unfolding read_potential
   potential_faultless = rw (potential_words, same_number (length ls) arcs all, lt_true (length done) nodes room, node_in nodes id (omega arith, omega arith) few, integer_read p small, same_number id id refl) refl
 

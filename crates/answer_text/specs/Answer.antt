@@ -5,7 +5,7 @@ use Rattle.std.specs.List.{All, flat_map}
 use Rattle.dimacs_lines.specs.declared.fault.LineFault.TheVariants as of_line
 use Rattle.answer_text.specs.declared.answer_fault.AnswerFault.{AnswerFault}
 use Rattle.answer_text.specs.declared.answer_fault.AnswerFault.TheVariants as fault
-use Rattle.answer_text.specs.AnswerFault.{number_of, in_line}
+use Rattle.answer_text.specs.AnswerFault.{number_of, in_answer_line}
 use Rattle.dimacs_lines.specs.declared.fault.LineError.{LineError}
 use Rattle.dimacs_lines.specs.declared.fault.TextFault.{TextFault}
 use Rattle.dimacs_lines.specs.Lines.{Line, lines_of}
@@ -30,9 +30,9 @@ line_of word =
     if bytes_eq word (codes "i") then line.Shortage else
     if bytes_eq word (codes "k") then line.CutNode else line.Unknown
 
-abbrev pub first_of : List Word → Option AnswerLine
-first_of [] = None
-first_of (word ∷ words) = Some (line_of word)
+abbrev pub answer_line_of : List Word → Option AnswerLine
+answer_line_of [] = None
+answer_line_of (word ∷ words) = Some (line_of word)
 
 -- what the fields of a line say, where it has no fault
 abbrev pub value_said : List Word → ℤ
@@ -86,19 +86,19 @@ cut_by (Some line.CutNode) fields = cut_node_said fields ∷ []
 cut_by _ fields = []
 
 abbrev pub values_in : Line → List ℤ
-values_in line = values_by (first_of (words_of line)) (fields_of (words_of line))
+values_in line = values_by (answer_line_of (words_of line)) (fields_of (words_of line))
 
 abbrev pub flows_in : Line → List FlowLine
-flows_in line = flows_by (first_of (words_of line)) (fields_of (words_of line))
+flows_in line = flows_by (answer_line_of (words_of line)) (fields_of (words_of line))
 
 abbrev pub potentials_in : Line → List ℤ
-potentials_in line = potentials_by (first_of (words_of line)) (fields_of (words_of line))
+potentials_in line = potentials_by (answer_line_of (words_of line)) (fields_of (words_of line))
 
 abbrev pub shortages_in : Line → List ℤ
-shortages_in line = shortages_by (first_of (words_of line)) (fields_of (words_of line))
+shortages_in line = shortages_by (answer_line_of (words_of line)) (fields_of (words_of line))
 
 abbrev pub cut_in : Line → List ℕ
-cut_in line = cut_by (first_of (words_of line)) (fields_of (words_of line))
+cut_in line = cut_by (answer_line_of (words_of line)) (fields_of (words_of line))
 
 abbrev pub first_value : List ℤ → Option ℤ
 first_value [] = None
@@ -120,18 +120,18 @@ unfoldable pub read_value : Said → List Word → Result ℤ AnswerFault
 read_value said fields = do
   _ ← demand (is_none said.value) fault.OutOfOrder
   _ ← demand (is_none said.shortage) fault.OutOfOrder
-  _ ← in_line (has_fields 1 fields)
-  in_line (some_or (claimed_value (field 0 fields)) of_line.NotANumber)
+  _ ← in_answer_line (has_fields 1 fields)
+  in_answer_line (some_or (claimed_value (field 0 fields)) of_line.NotANumber)
 
 -- an `f` line: one an arc, after the `s` line
 unfoldable pub read_flow : ℕ → ℕ → Said → List Word → Result FlowLine AnswerFault
 read_flow nodes arcs said fields = do
   _ ← demand (is_some said.value) fault.OutOfOrder
   _ ← demand (nat_lt (length said.flows) arcs) fault.OutOfOrder
-  _ ← in_line (has_fields 3 fields)
-  tail ← in_line (natural_in 1 nodes (field 0 fields))
-  head ← in_line (natural_in 1 nodes (field 1 fields))
-  flow ← in_line (number_in (field 2 fields))
+  _ ← in_answer_line (has_fields 3 fields)
+  tail ← in_answer_line (natural_in 1 nodes (field 0 fields))
+  head ← in_answer_line (natural_in 1 nodes (field 1 fields))
+  flow ← in_answer_line (number_in (field 2 fields))
   Ok (record { tail = tail; head = head; flow = pos flow })
 
 -- a `v` line: one a node, after all `f` lines, by rising ID
@@ -140,9 +140,9 @@ read_potential nodes arcs said fields = do
   _ ← demand (is_some said.value) fault.OutOfOrder
   _ ← demand (length said.flows == arcs) fault.OutOfOrder
   _ ← demand (nat_lt (length said.potentials) nodes) fault.OutOfOrder
-  _ ← in_line (has_fields 2 fields)
-  id ← in_line (natural_in 1 nodes (field 0 fields))
-  potential ← in_line (some_or (integer (field 1 fields)) of_line.NotANumber)
+  _ ← in_answer_line (has_fields 2 fields)
+  id ← in_answer_line (natural_in 1 nodes (field 0 fields))
+  potential ← in_answer_line (some_or (integer (field 1 fields)) of_line.NotANumber)
   _ ← demand (id == length said.potentials + 1) fault.OutOfOrder
   Ok potential
 
@@ -151,8 +151,8 @@ unfoldable pub read_shortage : Said → List Word → Result ℤ AnswerFault
 read_shortage said fields = do
   _ ← demand (is_none said.value) fault.OutOfOrder
   _ ← demand (is_none said.shortage) fault.OutOfOrder
-  _ ← in_line (has_fields 1 fields)
-  shortage ← in_line (number_in (field 0 fields))
+  _ ← in_answer_line (has_fields 1 fields)
+  shortage ← in_answer_line (number_in (field 0 fields))
   Ok (pos shortage)
 
 -- the last node of a cut, or 0, which is no node
@@ -163,33 +163,33 @@ last_node cut = slice_index_or cut (length cut - 1) 0
 unfoldable pub read_cut_node : ℕ → Said → List Word → Result ℕ AnswerFault
 read_cut_node nodes said fields = do
   _ ← demand (is_some said.shortage) fault.OutOfOrder
-  _ ← in_line (has_fields 1 fields)
-  id ← in_line (natural_in 1 nodes (field 0 fields))
+  _ ← in_answer_line (has_fields 1 fields)
+  id ← in_answer_line (natural_in 1 nodes (field 0 fields))
   _ ← demand (nat_lt (last_node said.cut) id) fault.OutOfOrder
   Ok id
 
 -- the number of the fault, if there is one
-abbrev pub fault_of : {A : Type 0} → Result A AnswerFault → Option ℕ
-fault_of (Ok x) = None
-fault_of (Err fault) = Some (number_of fault)
+abbrev pub answer_fault_of : {A : Type 0} → Result A AnswerFault → Option ℕ
+answer_fault_of (Ok x) = None
+answer_fault_of (Err fault) = Some (number_of fault)
 
 -- the number of the fault of a line that is not too long, by its words
-abbrev pub fault_by : ℕ → ℕ → Said → Option AnswerLine → List Word → Option ℕ
-fault_by nodes arcs said None fields = None
-fault_by nodes arcs said (Some line.Comment) fields = None
-fault_by nodes arcs said (Some line.Value) fields = fault_of (read_value said fields)
-fault_by nodes arcs said (Some line.Flow) fields = fault_of (read_flow nodes arcs said fields)
-fault_by nodes arcs said (Some line.Potential) fields = fault_of (read_potential nodes arcs said fields)
-fault_by nodes arcs said (Some line.Shortage) fields = fault_of (read_shortage said fields)
-fault_by nodes arcs said (Some line.CutNode) fields = fault_of (read_cut_node nodes said fields)
-fault_by nodes arcs said (Some line.Unknown) fields = Some (number_of (fault.Line of_line.UnknownDesignator))
+abbrev pub answer_fault_by : ℕ → ℕ → Said → Option AnswerLine → List Word → Option ℕ
+answer_fault_by nodes arcs said None fields = None
+answer_fault_by nodes arcs said (Some line.Comment) fields = None
+answer_fault_by nodes arcs said (Some line.Value) fields = answer_fault_of (read_value said fields)
+answer_fault_by nodes arcs said (Some line.Flow) fields = answer_fault_of (read_flow nodes arcs said fields)
+answer_fault_by nodes arcs said (Some line.Potential) fields = answer_fault_of (read_potential nodes arcs said fields)
+answer_fault_by nodes arcs said (Some line.Shortage) fields = answer_fault_of (read_shortage said fields)
+answer_fault_by nodes arcs said (Some line.CutNode) fields = answer_fault_of (read_cut_node nodes said fields)
+answer_fault_by nodes arcs said (Some line.Unknown) fields = Some (number_of (fault.Line of_line.UnknownDesignator))
 
-abbrev pub line_fault : ℕ → ℕ → Said → Line → Option ℕ
-line_fault nodes arcs said line = fault_by nodes arcs said (first_of (words_of line)) (fields_of (words_of line))
+abbrev pub answer_line_fault : ℕ → ℕ → Said → Line → Option ℕ
+answer_line_fault nodes arcs said line = answer_fault_by nodes arcs said (answer_line_of (words_of line)) (fields_of (words_of line))
 
 -- the number of the fault of a line that fits, by itself and what the lines before it say
 abbrev pub answer_rule : ℕ → ℕ → Rule
-answer_rule nodes arcs before line = line_fault nodes arcs (said_of before) line
+answer_rule nodes arcs before line = answer_line_fault nodes arcs (said_of before) line
 
 -- ---- the whole text
 
@@ -200,12 +200,12 @@ flow_ending nodes arcs (Some value) said =
     if length said.flows == arcs && length said.potentials == nodes then Ok (Flow value said.flows said.potentials) else Err fault.OutOfOrder
 
 -- the same, where the first may be an `i` line: after it no line is missing
-abbrev pub ending_by : ℕ → ℕ → Option ℤ → Said → Result Answer AnswerFault
-ending_by nodes arcs None said = flow_ending nodes arcs said.value said
-ending_by nodes arcs (Some shortage) said = Ok (Cut shortage said.cut)
+abbrev pub answer_ending_by : ℕ → ℕ → Option ℤ → Said → Result Answer AnswerFault
+answer_ending_by nodes arcs None said = flow_ending nodes arcs said.value said
+answer_ending_by nodes arcs (Some shortage) said = Ok (Cut shortage said.cut)
 
-abbrev pub ending : ℕ → ℕ → Said → Result Answer AnswerFault
-ending nodes arcs said = ending_by nodes arcs said.shortage said
+abbrev pub answer_ending : ℕ → ℕ → Said → Result Answer AnswerFault
+answer_ending nodes arcs said = answer_ending_by nodes arcs said.shortage said
 
 -- the nodes that an answer names are those of its problem
 abbrev pub JoinsNodes : ℕ → FlowLine → Type 0
@@ -228,7 +228,7 @@ FitsSize nodes arcs (Cut shortage cut) = All (IsNode nodes) cut
 
 -- the answer of lines without a fault, or the fault at their end with their number
 abbrev pub answer_end : ℕ → ℕ → List Line → Result Answer TextFault
-answer_end nodes arcs lines = or_at (numbered number_of (ending nodes arcs (said_of lines))) (length lines)
+answer_end nodes arcs lines = or_at (numbered number_of (answer_ending nodes arcs (said_of lines))) (length lines)
 
 -- the first faulty line, or the fault at the end with the number of lines, or the answer
 unfoldable pub answers : ℕ → ℕ → List ℕ → Result Answer TextFault
@@ -257,10 +257,10 @@ and_said said line = record {
 }
 
 -- what was taken is without a fault, and held as expected; or its fault is told, or want of memory where it has none
-abbrev pub TakesAs : Result (Unit {0}) LineError → Option ℕ → Drafted → Said → Drafted → Type 0
-TakesAs (Ok _) found old expected new = (found ≡ None) × (new ≡ record old { said = expected })
-TakesAs (Err e) found old expected new = Reports e found
+abbrev pub TakesAnswerAs : Result (Unit {0}) LineError → Option ℕ → Drafted → Said → Drafted → Type 0
+TakesAnswerAs (Ok _) found old expected new = (found ≡ None) × (new ≡ record old { said = expected })
+TakesAnswerAs (Err e) found old expected new = Reports e found
 
 -- a line was taken
-abbrev pub Takes : Result (Unit {0}) LineError → Line → Drafted → Drafted → Type 0
-Takes result line old new = TakesAs result (line_fault old.nodes old.arcs old.said line) old (and_said old.said line) new
+abbrev pub TakesAnswerLine : Result (Unit {0}) LineError → Line → Drafted → Drafted → Type 0
+TakesAnswerLine result line old new = TakesAnswerAs result (answer_line_fault old.nodes old.arcs old.said line) old (and_said old.said line) new

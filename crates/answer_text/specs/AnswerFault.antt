@@ -11,5 +11,5 @@ number_of (fault.Line e) = number_in_line e
 number_of fault.OutOfOrder = 40
 
 -- a check of a line by itself
-abbrev pub in_line : {A : Type 0} → Result A LineFault → Result A AnswerFault
-in_line read = held_as (λ e. fault.Line e) read
+abbrev pub in_answer_line : {A : Type 0} → Result A LineFault → Result A AnswerFault
+in_answer_line read = held_as (λ e. fault.Line e) read

@@ -11,23 +11,23 @@ use Rattle.answer_text.specs.declared.answer_reader.AnswerReader.{AnswerReader}
 use Rattle.answer_text.specs.Answer.{said_of, answer_rule, answers}
 
 -- the draft holds what the lines of an answer to a problem of this size say
-abbrev pub holds : ℕ → ℕ → List Line → AnswerDraft → Type 0
-holds nodes arcs before draft = draft ≡ record { nodes = nodes; arcs = arcs; said = said_of before }
+abbrev pub HoldsAnswer : ℕ → ℕ → List Line → AnswerDraft → Type 0
+HoldsAnswer nodes arcs before draft = draft ≡ record { nodes = nodes; arcs = arcs; said = said_of before }
 
 -- the reader holds what reading takes from the text
-abbrev pub StandsFor : ℕ → ℕ → AnswerReader → List ℕ → Type 0
-StandsFor nodes arcs reader text = generic.StandsFor (answer_rule nodes arcs) (holds nodes arcs) reader.reader text
+abbrev pub StandsForAnswer : ℕ → ℕ → AnswerReader → List ℕ → Type 0
+StandsForAnswer nodes arcs reader text = generic.StandsFor (answer_rule nodes arcs) (HoldsAnswer nodes arcs) reader.reader text
 
 -- after a piece: memory aside, the fault that is decided or none, and the reader stands for the text
-abbrev pub Feeds : ℕ → ℕ → Result (Unit {0}) TextFault → AnswerReader → List ℕ → Type 0
-Feeds nodes arcs result reader text = generic.Feeds (answer_rule nodes arcs) (holds nodes arcs) result reader.reader text
+abbrev pub FeedsAnswer : ℕ → ℕ → Result (Unit {0}) TextFault → AnswerReader → List ℕ → Type 0
+FeedsAnswer nodes arcs result reader text = generic.Feeds (answer_rule nodes arcs) (HoldsAnswer nodes arcs) result reader.reader text
 
 -- at the end: what reading gives; memory is wanted for a last line alone, where none is faulty
-abbrev pub Finishes : ℕ → ℕ → Result Answer TextFault → List ℕ → Type 0
-Finishes nodes arcs (Ok answer) text = answers nodes arcs text ≡ Ok answer
-Finishes nodes arcs (Err text_fault.Memory) text = StopsWell (answer_rule nodes arcs) text
-Finishes nodes arcs (Err (text_fault.Fault number line)) text = answers nodes arcs text ≡ Err (text_fault.Fault number line)
+abbrev pub FinishesAnswer : ℕ → ℕ → Result Answer TextFault → List ℕ → Type 0
+FinishesAnswer nodes arcs (Ok answer) text = answers nodes arcs text ≡ Ok answer
+FinishesAnswer nodes arcs (Err text_fault.Memory) text = StopsWell (answer_rule nodes arcs) text
+FinishesAnswer nodes arcs (Err (text_fault.Fault number line)) text = answers nodes arcs text ≡ Err (text_fault.Fault number line)
 
 -- the reader answered this, and answers it from then on
-abbrev pub HasFailed : AnswerReader → TextFault → Type 0
-HasFailed reader fault = generic.HasFailed reader.reader fault
+abbrev pub AnswerHasFailed : AnswerReader → TextFault → Type 0
+AnswerHasFailed reader fault = generic.HasFailed reader.reader fault

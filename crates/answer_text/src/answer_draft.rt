@@ -1,7 +1,7 @@
 //! What the lines of an answer text say so far.
 
 ghost use Rattle.std.specs.Prelude.{◌≡◌, [], ◌∷◌, ◌++◌, Some, None, IfOk};
-ghost use Rattle.answer_text.specs.Answer.{fault_of, Takes, TakesAs, read_value, read_flow, read_potential, read_shortage, read_cut_node, value_said, flow_said, potential_said, shortage_said, cut_node_said, last_node, ending, NamesNodes};
+ghost use Rattle.answer_text.specs.Answer.{answer_fault_of, TakesAnswerLine, TakesAnswerAs, read_value, read_flow, read_potential, read_shortage, read_cut_node, value_said, flow_said, potential_said, shortage_said, cut_node_said, last_node, answer_ending, NamesNodes};
 
 use crate::answer::{Answer, FlowLine};
 use crate::answer_fault::AnswerFault;
@@ -54,7 +54,7 @@ impl AnswerDraft {
 
     /// Takes a line that is not too long.
     pub fn take(&mut self, line: &[u8]) -> Result<(), LineError>
-        ensures { Takes result line.now self.old self.new }
+        ensures { TakesAnswerLine result line.now self.old self.new }
     {
         let mut words = Words::new(line);
         let Some(first) = words.next() else {
@@ -73,7 +73,7 @@ impl AnswerDraft {
 
     /// Takes an `s` line, after its designator.
     fn take_value(&mut self, fields: Words) -> Result<(), LineError>
-        ensures { TakesAs result (fault_of (read_value self.old.said fields.entry)) self.old
+        ensures { TakesAnswerAs result (answer_fault_of (read_value self.old.said fields.entry)) self.old
             (record self.old.said { value = Some (value_said fields.entry) }) self.new }
     {
         let value = self.read_value(fields)?;
@@ -83,7 +83,7 @@ impl AnswerDraft {
 
     /// Takes an `f` line, after its designator.
     fn take_flow(&mut self, fields: Words) -> Result<(), LineError>
-        ensures { TakesAs result (fault_of (read_flow self.old.nodes self.old.arcs self.old.said fields.entry)) self.old
+        ensures { TakesAnswerAs result (answer_fault_of (read_flow self.old.nodes self.old.arcs self.old.said fields.entry)) self.old
             (record self.old.said { flows = self.old.said.flows ++ flow_said fields.entry ∷ [] }) self.new }
     {
         let flow = self.read_flow(fields)?;
@@ -93,7 +93,7 @@ impl AnswerDraft {
 
     /// Takes a `v` line, after its designator.
     fn take_potential(&mut self, fields: Words) -> Result<(), LineError>
-        ensures { TakesAs result (fault_of (read_potential self.old.nodes self.old.arcs self.old.said fields.entry)) self.old
+        ensures { TakesAnswerAs result (answer_fault_of (read_potential self.old.nodes self.old.arcs self.old.said fields.entry)) self.old
             (record self.old.said { potentials = self.old.said.potentials ++ potential_said fields.entry ∷ [] }) self.new }
     {
         let potential = self.read_potential(fields)?;
@@ -103,7 +103,7 @@ impl AnswerDraft {
 
     /// Takes an `i` line, after its designator.
     fn take_shortage(&mut self, fields: Words) -> Result<(), LineError>
-        ensures { TakesAs result (fault_of (read_shortage self.old.said fields.entry)) self.old
+        ensures { TakesAnswerAs result (answer_fault_of (read_shortage self.old.said fields.entry)) self.old
             (record self.old.said { shortage = Some (shortage_said fields.entry) }) self.new }
     {
         let shortage = self.read_shortage(fields)?;
@@ -113,7 +113,7 @@ impl AnswerDraft {
 
     /// Takes a `k` line, after its designator.
     fn take_cut_node(&mut self, fields: Words) -> Result<(), LineError>
-        ensures { TakesAs result (fault_of (read_cut_node self.old.nodes self.old.said fields.entry)) self.old
+        ensures { TakesAnswerAs result (answer_fault_of (read_cut_node self.old.nodes self.old.said fields.entry)) self.old
             (record self.old.said { cut = self.old.said.cut ++ cut_node_said fields.entry ∷ [] }) self.new }
     {
         let node = self.read_cut_node(fields)?;
@@ -208,7 +208,7 @@ impl AnswerDraft {
 
     /// The answer, where no line is missing.
     pub fn close(self) -> Result<Answer, AnswerFault>
-        ensures value { result ≡ ending self.nodes self.arcs self.said }
+        ensures value { result ≡ answer_ending self.nodes self.arcs self.said }
         ensures ends { IfOk result (NamesNodes self.nodes) }
     {
         let AnswerDraft {

@@ -14,13 +14,13 @@ use std::alloc::Global;
 impl LineTaker for AnswerDraft {
     ghost use Rattle.std.specs.Prelude.{ℕ};
     ghost use Rattle.answer_text.specs.Answer.{answer_rule};
-    ghost use Rattle.answer_text.specs.AnswerReader.{holds as holds_lines};
+    ghost use Rattle.answer_text.specs.AnswerReader.{HoldsAnswer};
 
     ghost Setting = { ℕ × ℕ };
 
     ghost rule = { λ size. answer_rule size.0 size.1 };
 
-    ghost holds = { λ size. holds_lines size.0 size.1 };
+    ghost holds = { λ size. HoldsAnswer size.0 size.1 };
 
     #[inline(always)]
     fn take_front(&mut self, _text: &[u8]) -> Option<usize> {
@@ -41,11 +41,11 @@ pub struct AnswerReader {
 }
 
 impl AnswerReader {
-    ghost use Rattle.answer_text.specs.AnswerReader.{StandsFor, Feeds, Finishes, HasFailed};
+    ghost use Rattle.answer_text.specs.AnswerReader.{StandsForAnswer, FeedsAnswer, FinishesAnswer, AnswerHasFailed};
 
     /// A reader of the empty text, as an answer to a problem with so many nodes and arcs.
     pub fn new(alloc: Global, nodes: u32, arcs: u32) -> Self
-        ensures text { StandsFor nodes arcs result [] }
+        ensures text { StandsForAnswer nodes arcs result [] }
         ensures undecided { decided (answer_rule nodes arcs) [] ≡ None }
     {
         AnswerReader {
@@ -56,13 +56,13 @@ impl AnswerReader {
     /// Takes the next piece of the text, and answers the fault that is decided by now. After a fault or want of memory
     /// every later call answers the same.
     pub fn feed(&mut self, piece: &[u8]) -> Result<(), TextFault>
-        ensures text { (nodes arcs : ℕ) (text : List ℕ) → StandsFor nodes arcs self.old text
-            → Feeds nodes arcs result self.new (text ++ piece.now) }
+        ensures text { (nodes arcs : ℕ) (text : List ℕ) → StandsForAnswer nodes arcs self.old text
+            → FeedsAnswer nodes arcs result self.new (text ++ piece.now) }
         // No want of memory stands for a fault: it is answered at the end of a line before any.
-        ensures memory { (nodes arcs : ℕ) (text : List ℕ) → StandsFor nodes arcs self.old text
+        ensures memory { (nodes arcs : ℕ) (text : List ℕ) → StandsForAnswer nodes arcs self.old text
             → result ≡ Err TextFault.Memory → EndsWell (answer_rule nodes arcs) text piece.now }
-        ensures err { IfErr result (HasFailed self.new) }
-        ensures failed { (e : TextFault) → HasFailed self.old e → result ≡ Err e }
+        ensures err { IfErr result (AnswerHasFailed self.new) }
+        ensures failed { (e : TextFault) → AnswerHasFailed self.old e → result ≡ Err e }
     {
         self.reader.feed(piece)
     }
@@ -70,11 +70,11 @@ impl AnswerReader {
     /// Ends the text, and answers what it says. Where a line is missing at the end, that is fault 40 with the number of
     /// lines.
     pub fn finish(self) -> Result<Answer, TextFault>
-        ensures text { (nodes arcs : ℕ) (text : List ℕ) → StandsFor nodes arcs self text
-            → Finishes nodes arcs result text }
-        ensures fits { (nodes arcs : ℕ) (text : List ℕ) → StandsFor nodes arcs self text
+        ensures text { (nodes arcs : ℕ) (text : List ℕ) → StandsForAnswer nodes arcs self text
+            → FinishesAnswer nodes arcs result text }
+        ensures fits { (nodes arcs : ℕ) (text : List ℕ) → StandsForAnswer nodes arcs self text
             → IfOk result (FitsSize nodes arcs) }
-        ensures failed { (e : TextFault) → HasFailed self e → result ≡ Err e }
+        ensures failed { (e : TextFault) → AnswerHasFailed self e → result ≡ Err e }
     {
         let AnswerReader { reader } = self;
         let (draft, lines) = reader.finish()?;

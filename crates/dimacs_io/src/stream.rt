@@ -1,5 +1,5 @@
 //! Devices over std's readers and writers: each failed call is counted, and none is made again.
-ghost use Rattle.std.specs.Prelude.{◌≡◌, ◌⊎◌, ℕ, ◌-◌, ◌^◌, ◌<◌, ◌≤◌, [], false, Ok, IsErr, IfOk, MatchResult, length, take};
+ghost use Rattle.std.specs.Prelude.{◌≡◌, ◌⊎◌, ◌-◌, ◌^◌, ◌<◌, ◌≤◌, [], false, Ok, IsErr, IfOk, MatchResult, length, take};
 ghost use Rattle.std.specs.Option.{option_map};
 ghost use Rattle.dimacs_io.specs.Device.{CountsFailure, CountsFlush, EndsBy};
 ghost use Rattle.dimacs_io.specs.declared.device.LastCall.TheVariants as last;

@@ -1,9 +1,9 @@
 //! Cutting a text that comes in pieces into lines.
 
-ghost use Rattle.std.specs.Prelude.{◌≡◌, ◌↔◌, ◌<◌, ◌≤◌, ◌≢◌, false, [], ◌++◌, length, take, List, ℕ, IsTrue, IfSome, Some, None};
+ghost use Rattle.std.specs.Prelude.{◌≡◌, ◌↔◌, ◌<◌, ◌≤◌, ◌≢◌, false, [], ◌++◌, length, take, List, ℕ, IfSome, Some, None};
 ghost use Rattle.std.specs.List.{position_or_len};
 ghost use Rattle.std.specs.Option.{option_map};
-ghost use Rattle.dimacs_lines.specs.Lines.{Line, is_line_feed, is_too_long, parts_of};
+ghost use Rattle.dimacs_lines.specs.Lines.{Line, is_line_feed, parts_of};
 ghost use Rattle.dimacs_lines.specs.Cut.{begun_line, is_begun, extended, HoldsRest, BeginsRest, CutsLine, bytes_used, has_line_feed, cut_after, IsWhole};
 
 use arrayvec::ArrayVec;

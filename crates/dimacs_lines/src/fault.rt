@@ -1,6 +1,6 @@
 //! The faults of a line, and what is answered of a text that has a fault.
 
-ghost use Rattle.std.specs.Prelude.{◌≡◌, ◌+◌, min, ◌-◌, ◌^◌};
+ghost use Rattle.std.specs.Prelude.{◌≡◌, ◌+◌, ◌-◌, ◌^◌};
 ghost use Rattle.dimacs_lines.specs.Fault.{number_of, located};
 
 use std::alloc::{AllocError, AllocFailed};

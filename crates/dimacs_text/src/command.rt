@@ -1,6 +1,6 @@
 //! One line of a command text.
 
-ghost use Rattle.std.specs.Prelude.{◌≡◌, ◌≢◌, ◌↔◌, IsTrue, [], ◌∷◌, ◌<◌, length, Ok};
+ghost use Rattle.std.specs.Prelude.{◌≡◌, ◌≢◌, ◌↔◌, IsTrue, [], ◌∷◌, ◌<◌, Ok};
 ghost use Rattle.dimacs_text.specs.declared.command.Command.TheVariants as commands;
 ghost use Rattle.dimacs_text.specs.declared.problem.Kind.{Kind};
 ghost use Rattle.dimacs_lines.specs.Fields.{words_of};

@@ -1,9 +1,8 @@
 //! The excess of each node and the cost of a flow, carried over from one flow to the next.
 
-ghost use Rattle.std.specs.Prelude.{◌≡◌, ℕ, ℤ, pos, ◌+◌, ◌*ℤ◌, ◌+ℤ◌, ◌-ℤ◌, ◌<◌, ◌≤◌, IfOk, length};
+ghost use Rattle.std.specs.Prelude.{◌≡◌, ℕ, ℤ, ◌+◌, ◌*ℤ◌, ◌+ℤ◌, ◌-ℤ◌, ◌<◌, ◌≤◌, IfOk, length};
 ghost use Rattle.std.specs.Int.{int_wrap, w128};
 ghost use Rattle.residual_graph.specs.Limits.{entry_limit};
-ghost use Rattle.residual_graph.specs.Residual.{row_at, number_at};
 ghost use Rattle.flow_solver.specs.Balance.{AreEndsIn, AreWrapped, FollowsFlow, IsCarried, IsRaised, IsWrappedCost, IsWrappedExcess, node_supply};
 
 use crate::answer::supply_at;

@@ -1,6 +1,6 @@
 //! All pushes that can be made, and the greatest potentials that certify the flow after them.
 
-ghost use Rattle.std.specs.Prelude.{◌≡◌, ℕ, ℤ, IsTrue, drop, false, length};
+ghost use Rattle.std.specs.Prelude.{◌≡◌, IsTrue, drop, false, length};
 ghost use Rattle.network.specs.Flow.{IsGreatestPotential};
 ghost use Rattle.network.specs.Instance.{at_node, reduced};
 ghost use Rattle.augmentation.specs.Pseudoflow.{IsReady};

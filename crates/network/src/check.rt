@@ -1,5 +1,5 @@
 //! The checkers of answers.
-ghost use Rattle.std.specs.Prelude.{◌≡◌, ◌≢◌, ◌↔◌, ◌≤◌, ℕ, ℤ, List, All, IfSome, IsTrue, length};
+ghost use Rattle.std.specs.Prelude.{◌≡◌, ◌≢◌, ◌↔◌, ◌≤◌, ℤ, List, All, IfSome, IsTrue, length};
 ghost use Rattle.network.specs.Flow.{AllWithinBounds, IsNode, IsPotential};
 ghost use Rattle.network.specs.Instance.{reduced, IsInner, IsBalancedAt, IsBalanced, IsReturnCertified, IsLegal, IsCertified, IsBest, IsBestAnswer, IsCutAnswer, return_arc_of, at_node, worth};
 

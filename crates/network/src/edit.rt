@@ -4,7 +4,7 @@ ghost use Rattle.network.specs.Ends.{AddsEnd, AreEndLists, RemovesEnd};
 ghost use Rattle.dimacs_lines.specs.Fields.{IsNode};
 ghost use Rattle.dimacs_text.specs.Lawful.{IsLawfulRow, IsWithin};
 ghost use Rattle.network.specs.Edited.{with_arc, with_last, with_node_supply};
-ghost use Rattle.network.specs.Instance.{ArcFits, at_node, kind_of};
+ghost use Rattle.network.specs.Instance.{ArcFits, kind_of};
 ghost use Rattle.network.specs.Representation.{ends_in, front, instance_of, return_rows, CanBegin};
 
 use crate::start::Frame;

@@ -5,7 +5,7 @@ ghost use Rattle.dimacs_text.specs.declared.command.Edit.{Edit};
 ghost use Rattle.dimacs_text.specs.declared.problem.TheConstants.{ARC_LIMIT};
 ghost use Rattle.network.specs.Edited.{AnswersEditOf, EndsFit, SharesFrame, added, arc_of, count_after, edited, edited_all, edited_by, row_after, is_across, is_bound, is_new_row, is_node, is_within, suits_kind, outcome, tried};
 ghost use Rattle.network.specs.Flow.{IsNode};
-ghost use Rattle.network.specs.Instance.{Instance, IsLawful, arc_at, kind_of, reduced};
+ghost use Rattle.network.specs.Instance.{Instance, IsLawful, arc_at, reduced};
 
 use crate::refusal::EditRefusal;
 use crate::{Goal, Network};

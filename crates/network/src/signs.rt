@@ -1,5 +1,5 @@
 //! Reduced costs, and the sign rule that certifies a flow.
-ghost use Rattle.std.specs.Prelude.{◌≡◌, ◌↔◌, ℕ, ◌^◌, ◌≤◌, ◌+ℤ◌, ◌-ℤ◌, All, FitsSigned, IsTrue, length, unsigned_abs};
+ghost use Rattle.std.specs.Prelude.{◌≡◌, ◌↔◌, ℕ, ◌^◌, ◌≤◌, ◌+ℤ◌, ◌-ℤ◌, All, FitsSigned, IsTrue, length};
 ghost use Rattle.std.specs.Int.{w64};
 ghost use Rattle.std.specs.List.{AllZip};
 ghost use Rattle.network.specs.Flow.{FollowsSign, IsPotential, reduced_cost};

@@ -1,5 +1,5 @@
 //! What an instance is made of, and its reduction to minimum cost.
-ghost use Rattle.std.specs.Prelude.{◌≡◌, ◌+◌, ◌≤◌, Some, None, length, option_map};
+ghost use Rattle.std.specs.Prelude.{◌≡◌, ◌+◌, ◌≤◌, Some, None, length};
 ghost use Rattle.network.specs.Flow.{AllEndsAreNodes, IsNode};
 ghost use Rattle.network.specs.Instance.{IsLawful, arc_at, kind_of, reduced, reduced_supply, return_arc};
 ghost use Rattle.network.specs.Rows.{return_arcs};

@@ -1,6 +1,6 @@
 //! The network in the forms that searches read.
 
-ghost use Rattle.std.specs.Prelude.{◌≡◌, ℕ, ◌+◌, ◌-◌, ◌*◌, ◌<◌, ◌≤◌, ◌↔◌, ◌++◌, ◌∷◌, [], IfOk, IfSome, IsTrue, length, slice_index, slice_index_or};
+ghost use Rattle.std.specs.Prelude.{◌≡◌, ℕ, ◌+◌, ◌-◌, ◌*◌, ◌<◌, ◌≤◌, ◌↔◌, ◌++◌, ◌∷◌, [], IfSome, IsTrue, length, slice_index_or};
 ghost use Rattle.dimacs_lines.specs.Fields.{IsNode};
 ghost use Rattle.dimacs_text.specs.Lawful.{IsLawfulRow, IsWithin};
 ghost use Rattle.dimacs_text.specs.declared.problem.Kind.TheVariants.{Min};

@@ -25,7 +25,7 @@ problem_finished (Ok _) text is = is
 problem_finished (Err text_fault.Memory) text is = tt
 problem_finished (Err (text_fault.Fault number line)) text is = is
 
-pub answer_finished : (nodes arcs : ℕ) (result : Result Answer TextFault) (text : List ℕ) → answer.Finishes nodes arcs result text → FinishesText (answers nodes arcs) result text
+pub answer_finished : (nodes arcs : ℕ) (result : Result Answer TextFault) (text : List ℕ) → answer.FinishesAnswer nodes arcs result text → FinishesText (answers nodes arcs) result text
 answer_finished nodes arcs (Ok _) text is = is
 answer_finished nodes arcs (Err text_fault.Memory) text is = tt
 answer_finished nodes arcs (Err (text_fault.Fault number line)) text is = is

@@ -119,7 +119,7 @@ impl PieceReader for ProblemReader {
 
 impl PieceReader for AnswerReader {
     ghost use Rattle.std.specs.Prelude.{ℕ};
-    ghost use Rattle.answer_text.specs.AnswerReader.{StandsFor};
+    ghost use Rattle.answer_text.specs.AnswerReader.{StandsForAnswer};
 
     type Content = Answer;
 
@@ -129,7 +129,7 @@ impl PieceReader for AnswerReader {
 
     ghost content = { λ size. answers size.0 size.1 };
 
-    ghost stands = { λ size. StandsFor size.0 size.1 };
+    ghost stands = { λ size. StandsForAnswer size.0 size.1 };
 
     fn take_piece(&mut self, piece: &[u8]) -> Result<(), TextFault> {
         self.feed(piece)

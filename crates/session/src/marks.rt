@@ -1,6 +1,6 @@
 //! The marks of a session: names that moments bear.
 
-ghost use Rattle.std.specs.Prelude.{◌≡◌, ◌∷◌, [], nat_le};
+ghost use Rattle.std.specs.Prelude.{◌≡◌, ◌∷◌, []};
 ghost use Rattle.std.specs.Bool.{OnTrue, OnFalse};
 ghost use Rattle.session.specs.Marks.{has_place, marked, place_of, up_to, with_mark};
 

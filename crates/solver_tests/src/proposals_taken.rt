@@ -1,6 +1,6 @@
 //! Proposals on small networks: what leads to a best flow is taken, and after a spoilt one the searches do the work.
 
-ghost use Rattle.std.specs.Prelude.{◌≡◌, IfOk, length};
+ghost use Rattle.std.specs.Prelude.{◌≡◌, IfOk};
 
 use crate::start::{MOST_ROWS, are_ready, start_flow};
 use crate::steps::{prepare, take_up};

@@ -1,6 +1,5 @@
 -- Tables that note where they are written, so that what stood before can be kept and compared at these places alone.
-use Rattle.std.specs.Prelude.{◌≡◌, ℕ, ◌+◌, ◌<◌, ◌⊎◌, Any, List, length, slice_index_or, Bool, true, false}
-use Rattle.tracked.specs.Marks.{in_set}
+use Rattle.std.specs.Prelude.{◌≡◌, ℕ, ◌+◌, ◌<◌, ◌⊎◌, Any, List, length, slice_index_or}
 
 module _ {T : Type 0} where
   -- two tables have the same entry at a place

@@ -1,6 +1,6 @@
 use Rattle.std.proofs.Common.{ℕ, refl, sym, ap, subst}
 use Rattle.std.proofs.lemmas.List.Elements.{All-push}
-use Rattle.answer_text.specs.Answer.{fault_of}
+use Rattle.answer_text.specs.Answer.{answer_fault_of}
 use Rattle.dimacs_lines.specs.Fields.{IsNode}
 use Rattle.answer_text.specs.Answer.{Drafted}
 use Rattle.answer_text.proofs.AnswerLineLemmas.{read_cut_node-ok}
@@ -17,4 +17,4 @@ invariant_of-self-2 c =
 pub returns : goal.returns
 returns c =
     let read = read_cut_node-ok c.args.self.now.nodes c.args.self.now.said c.args.fields c.in_ok-node.node (sym c.in_ok-node.ensures) in
-    (ap fault_of (sym c.in_ok-node.ensures), rw (← c.self.view_is, c.in_ok-push.ensures.items, read.node_is) refl)
+    (ap answer_fault_of (sym c.in_ok-node.ensures), rw (← c.self.view_is, c.in_ok-push.ensures.items, read.node_is) refl)

@@ -1,6 +1,6 @@
 use Rattle.std.proofs.Common.{ℕ, refl, sym, ap, subst}
 use Rattle.std.proofs.lemmas.List.Elements.{All-push}
-use Rattle.answer_text.specs.Answer.{fault_of}
+use Rattle.answer_text.specs.Answer.{answer_fault_of}
 use Rattle.answer_text.specs.Answer.{Drafted, JoinsNodes}
 use Rattle.answer_text.proofs.AnswerLineLemmas.{read_flow-ok}
 use Rattle.answer_text.proofs.answer_draft.AnswerDraft.take_flow.Goals as goal
@@ -16,4 +16,4 @@ invariant_of-self-2 c =
 pub returns : goal.returns
 returns c =
     let read = read_flow-ok c.args.self.now.nodes c.args.self.now.arcs c.args.self.now.said c.args.fields c.in_ok-flow.flow (sym c.in_ok-flow.ensures) in
-    (ap fault_of (sym c.in_ok-flow.ensures), rw (← c.self.view_is, c.in_ok-push.ensures.items, read.line_is) refl)
+    (ap answer_fault_of (sym c.in_ok-flow.ensures), rw (← c.self.view_is, c.in_ok-push.ensures.items, read.line_is) refl)
