@@ -25,6 +25,8 @@ pub enum State {
     Settled,
     /// It is on a walk.
     Walked,
+    /// It is on what is kept of a walk.
+    Kept,
     /// No walk gets on from it.
     Dead,
 }

@@ -71,11 +71,15 @@ impl Search {
         self.frontier.set_state(t, State::Walked);
         let mut u = t;
         for _ in 0..STEPS.saturating_mul(proposal.ends().count() as u64) {
-            let next = if proposal.is_root::<AHEAD>(u) {
+            let next = if self.frontier.state(u) == State::Kept {
+                self.push::<AHEAD>(proposal, t, u)
+            } else if proposal.is_root::<AHEAD>(u) {
+                self.drop_kept::<AHEAD>(proposal);
+                self.walk.set_root(u as u32);
                 self.push::<AHEAD>(proposal, t, u)
             } else if let Some(step) = self.step_back::<AHEAD>(proposal, u) {
                 self.walk.add(u as u32, step.place, step.room);
-                self.frontier.set_state(step.other, State::Walked);
+                self.come_upon::<AHEAD>(proposal, step.other);
                 Some(step.other)
             } else {
                 self.turn_back::<AHEAD>(proposal, u, renewals)
@@ -85,11 +89,27 @@ impl Search {
             };
             u = next;
         }
+        self.drop_kept::<AHEAD>(proposal);
         for _ in 0..self.entries() {
             let Some(before) = self.leave_last::<AHEAD>(proposal, u) else {
                 return;
             };
             u = before;
+        }
+    }
+
+    /// Comes upon a node: the walk stands there, or goes on along what is kept from there on.
+    #[inline(always)]
+    fn come_upon<const AHEAD: bool>(&mut self, proposal: &mut Proposal, v: usize)
+        requires proposal { proposal.old ≡ self.old }
+        requires node { v < self.old }
+        ensures kept { self.new ≡ self.old }
+        ensures proposal { proposal.new ≡ proposal.old }
+    {
+        if self.frontier.state(v) == State::Kept {
+            self.drop_before::<AHEAD>(proposal, v);
+        } else {
+            self.frontier.set_state(v, State::Walked);
         }
     }
 
@@ -122,39 +142,48 @@ impl Search {
         }
     }
 
-    /// Pushes from `s` along the walk to `t`. Gives the node from which the walk goes on: that before the first arc that was
-    /// filled; none where nothing lacks any more.
+    /// Pushes from the root along what is kept and the walk, which meet at `u`, to `t`. Gives the node from which the walk goes
+    /// on: that before the first arc that was filled; none where nothing lacks any more.
     fn push<const AHEAD: bool>(
         &mut self,
         proposal: &mut Proposal,
         t: usize,
-        s: usize,
+        u: usize,
     ) -> Option<usize>
         requires proposal { proposal.old ≡ self.old }
         requires t { t < self.old }
-        requires s { s < self.old }
+        requires u { u < self.old }
         ensures kept { self.new ≡ self.old }
         ensures proposal { proposal.new ≡ proposal.old }
         ensures node { IfSome result (λ v. v < self.old) }
     {
+        let root = self.walk.root();
+        if root >= self.entries() {
+            return None;
+        }
         self.pushes = self.pushes.saturating_add(1);
         let lack = -proposal.excess::<AHEAD>(t);
-        let amount = self.walk.room(lack.min(proposal.excess::<AHEAD>(s)));
-        proposal.carry::<AHEAD>(s, t, amount);
+        let amount = self.walk.room(lack.min(proposal.excess::<AHEAD>(root)));
+        proposal.carry::<AHEAD>(root, t, amount);
         self.walk.push(amount);
         if !proposal.is_goal::<AHEAD>(t) {
             self.frontier.set_state(t, State::Settled);
             return None;
         }
-        let mut u = s;
-        for _ in 0..self.entries() {
-            if proposal.is_open(self.walk.room(i64::MAX)) {
-                break;
-            }
-            let Some(before) = self.leave_last::<AHEAD>(proposal, u) else {
-                break;
-            };
-            u = before;
+        let least = i64::from(proposal.least);
+        let u = if !self.walk.is_open(least) {
+            self.go_back::<AHEAD>(proposal, u)
+        } else if !self.walk.is_kept_open(least) {
+            self.go_up::<AHEAD>(proposal)
+        } else {
+            u
+        };
+        if u >= self.entries() {
+            return None;
+        }
+        if !proposal.is_root::<AHEAD>(root) {
+            self.drop_kept::<AHEAD>(proposal);
+            self.frontier.set_state(u, State::Walked);
         }
         Some(u)
     }

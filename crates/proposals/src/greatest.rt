@@ -2,7 +2,6 @@
 
 ghost use Rattle.std.specs.Prelude.{◌≡◌, ◌<◌};
 
-use crate::scaling::scale;
 use crate::search::Search;
 use crate::solving::{Fuel, Goals, MOST_PAIRS, take_turns};
 use relaxation::{Proposal, REST_LIMIT, seen};
@@ -25,10 +24,6 @@ const HOME: Fuel = Fuel {
 /// So many pairs of searches are made between nodes out of balance before what is left goes home. With none groups in level
 /// graphs took twice as long, with 4 those in stairs did.
 const SOME_PAIRS: usize = 1;
-
-/// Where the sink is further away, a greatest flow is looked for in stages: each push goes a long way, so few large ones
-/// are quicker, though more searches are made. At 530 it took three fifths of the time, at 347 and below nothing was gained.
-const MANY_LEVELS: u32 = 400;
 
 /// Makes a flow a greatest one: where its arcs cost nothing, that takes few searches.
 pub(crate) fn make_greatest(proposal: &mut Proposal, search: &mut Search)
@@ -63,13 +58,13 @@ pub fn solve_from(
     bring_home::<false>(proposal, search, sink, source);
     proposal.add_rest(source, more);
     proposal.add_rest(sink, more.saturating_neg());
-    search.start();
-    let _length = search.search::<true>(proposal, usize::MAX);
-    let fuel = Fuel::GREATEST;
-    if search.levels() > MANY_LEVELS {
-        scale(proposal, search, fuel);
-    }
-    let _done = take_turns(proposal, search, &mut Goals::ALL, MOST_PAIRS, fuel);
+    let _done = take_turns(
+        proposal,
+        search,
+        &mut Goals::ALL,
+        MOST_PAIRS,
+        Fuel::GREATEST,
+    );
 }
 
 /// Moves what lies in excess, as a side sees it, to the root of that side. What lies at the two roots is kept apart meanwhile.

@@ -13,6 +13,7 @@
 mod block;
 mod greatest;
 mod home;
+mod kept;
 mod look;
 mod parted;
 mod record;

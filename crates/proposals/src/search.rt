@@ -125,15 +125,6 @@ impl Search {
         self.frontier.settled().listed().len()
     }
 
-    /// The most arcs on the path to a node that the search settled.
-    pub fn levels(&self) -> u32 {
-        let mut deepest = 0;
-        for v in self.frontier.settled().listed() {
-            deepest = self.records[*v as usize].depth.max(deepest);
-        }
-        deepest
-    }
-
     /// The number of entries of a table of nodes.
     pub fn entries(&self) -> usize
         ensures { result ≡ self.now }

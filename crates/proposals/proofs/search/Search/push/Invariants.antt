@@ -1,5 +1,0 @@
-use Rattle.std.proofs.Common.{◌≡◌, ◌<◌}
-use Rattle.proposals.proofs.search.Search.push.Given as goal
-
-abbrev pub invariant-loop : goal.invariant-loop
-invariant-loop g l = record { search : l.self ≡ l.initial.self; proposal : l.proposal ≡ l.initial.proposal; node : l.u < l.self }
