@@ -23,6 +23,7 @@ from .explain import explain
 from .formats import as_bytes, as_str
 from .hints import PACKED
 from .meaning import amounts_of, taken_for
+from .outputs import write_text
 from .plan import Disagreement, Plan
 from .printing import of_system, say, tell, visible
 from .problem import Problem, exact, plain
@@ -490,7 +491,7 @@ def _plan(options: argparse.Namespace) -> int:
     lift_alarm()
     # First the files: where one can't be written, nothing is printed.
     for name, text in files:
-        Path(name).write_text(text, encoding="utf-8", errors="backslashreplace")
+        write_text(name, text, errors="backslashreplace")
     if options.table and isinstance(result, Plan):
         write_plan(result, options.table)
     sys.stdout.write(out.getvalue())
@@ -592,7 +593,7 @@ def _convert(options: argparse.Namespace) -> int:
     _tell_notes(rewriting.notes)
     lift_alarm()
     if options.output:
-        Path(options.output).write_text(rewriting.text, encoding="utf-8")
+        write_text(options.output, rewriting.text)
     else:
         sys.stdout.write(rewriting.text)
     return 0

@@ -7,10 +7,10 @@ import shlex
 import unicodedata
 from contextlib import ExitStack, suppress
 from decimal import Decimal
-from pathlib import Path
 from typing import Callable, Dict, List, Optional, Sequence, TextIO
 
 from .explain import MOST_TOLD
+from .outputs import write_text
 from .plan import Infeasible
 from .printing import of_system, print_table, say, tell
 from .problem import ArcKey, plain, total_of
@@ -342,7 +342,7 @@ class Conversation:
     def write(self, name: str, text: Callable[[], str], *, is_problem: bool) -> None:
         """Writes a text to a file."""
         self.check_kept(name, is_problem=is_problem)
-        Path(name).write_text(text(), encoding="utf-8")
+        write_text(name, text())
         self.say(f"written to {name}")
 
     def report(self, name: str) -> None:

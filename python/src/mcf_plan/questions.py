@@ -14,6 +14,7 @@ from typing import Any, Dict, List, Optional, Tuple
 
 from .deadline import lift_alarm
 from .formats import counted
+from .outputs import write_text
 from .plan import Infeasible, Plan
 from .printing import print_table, say
 from .problem import WIDE, Problem, exact, plain
@@ -332,7 +333,7 @@ def run_sweep(options: argparse.Namespace, problem: Problem) -> bool:
 
         title = f"{worth.capitalize()} over the {words}"
         text = svg_chart(found, title=title, across=words, up=worth, now=now)
-        Path(options.chart).write_text(text, encoding="utf-8", errors="backslashreplace")
+        write_text(options.chart, text, errors="backslashreplace")
     if options.json:
         print(_json(problem, words, found))
     else:

@@ -21,6 +21,7 @@ from pathlib import Path
 from typing import Any, Iterator, Mapping, NamedTuple, Optional, Union
 
 from .explain import MOST_TOLD, explain
+from .outputs import write_text
 from .plan import Infeasible, Plan
 from .printing import visible
 from .problem import WIDE, ZERO, Arc, Problem, plain
@@ -596,8 +597,8 @@ def html_text(result: Result, *, title: str = "Plan") -> str:
 
 
 def html_report(result: Result, path: Union[str, Path], *, title: str = "Plan") -> None:
-    """Writes the report to a file. OSError where it can't be written."""
-    Path(path).write_text(html_text(result, title=title), encoding="utf-8", errors="backslashreplace")
+    """Writes the report to a file, whole or not at all. OSError where it can't be written."""
+    write_text(path, html_text(result, title=title), errors="backslashreplace")
 
 
 def to_csv(result: Result) -> str:

@@ -10,6 +10,7 @@ import csv
 import re
 import unicodedata
 from decimal import Decimal
+from io import StringIO
 from itertools import chain
 from pathlib import Path
 from typing import TYPE_CHECKING, Any, Collection, Dict, Iterable, List, Mapping, Optional, Sequence, Tuple, Union
@@ -17,6 +18,7 @@ from typing import TYPE_CHECKING, Any, Collection, Dict, Iterable, List, Mapping
 from .cells import TableFault, is_empty, limit_fault, name_of
 from .columns import called, compare_units, find_columns, folded
 from .formats import counted
+from .outputs import write_text
 from .problem import ONE, WIDE, ZERO, Arc, Number, Problem, exact, plain
 from .reading import Reading, Table, no_column
 from .rounding import round_problem
@@ -411,10 +413,11 @@ def write_table(
         numbers = [[_cell(cell) if place >= texts else cell for place, cell in enumerate(row)] for row in rows]
         write_sheet(path, named or sheet, [columns, *numbers])
         return
-    with open(path, "w", newline="", encoding="utf-8") as file:
-        writer = csv.writer(file, delimiter="\t" if path.suffix.lower() == ".tsv" else ",", lineterminator="\n")
-        writer.writerow(columns)
-        writer.writerows(rows)
+    out = StringIO()
+    writer = csv.writer(out, delimiter="\t" if path.suffix.lower() == ".tsv" else ",", lineterminator="\n")
+    writer.writerow(columns)
+    writer.writerows(rows)
+    write_text(path, out.getvalue())
 
 
 def _cell(text: str) -> Any:

@@ -9,20 +9,19 @@ from __future__ import annotations
 
 import datetime
 import errno
-import os
 import posixpath
 import re
-import shutil
-import tempfile
 import zipfile
 import zlib
 from contextlib import contextmanager
+from io import BytesIO
 from pathlib import Path
 from typing import Any, Dict, FrozenSet, Iterator, List, NamedTuple, Sequence, Set, Tuple, Union
 from xml.etree import ElementTree
 from xml.sax.saxutils import escape, quoteattr
 
 from .cells import Merged, NoValue, TableFault, is_empty
+from .outputs import write_bytes
 from .sheets import Sheet, sheet_of_rows
 
 WORKBOOK = "xl/workbook.xml"
@@ -351,7 +350,7 @@ def write_workbook(path: Path, name: str, rows: Rows) -> None:
         "xl/_rels/workbook.xml.rels": _relations_text([("rId1", "worksheet", "worksheets/sheet1.xml")]),
         "xl/worksheets/sheet1.xml": _sheet_text(rows),
     }
-    _replace(path, [(name, text.encode()) for name, text in parts.items()])
+    _write(path, [(name, text.encode()) for name, text in parts.items()])
 
 
 def write_sheet(path: Path, name: str, rows: Rows) -> None:
@@ -370,9 +369,9 @@ def write_sheet(path: Path, name: str, rows: Rows) -> None:
     if old:
         if re.search(rb"<(\w+:)?f[ />]", dict(parts)[old[0]]):
             raise TableFault(f"{path.name}: the sheet {name!r} has formulas, which would be lost; take another name")
-        _replace(path, [(each, text if each == old[0] else content) for each, content in parts])
+        _write(path, [(each, text if each == old[0] else content) for each, content in parts])
         return
-    _replace(path, _with_sheet(parts, name, text))
+    _write(path, _with_sheet(parts, name, text))
 
 
 def _with_sheet(parts: List[Tuple[str, bytes]], name: str, sheet: bytes) -> List[Tuple[str, bytes]]:
@@ -432,19 +431,10 @@ def _escaped(text: str) -> str:
     )
 
 
-def _replace(path: Path, parts: Sequence[Tuple[str, bytes]]) -> None:
-    """Writes the parts as a file that takes the place of the one that is there when it is whole, for whom that was
-    there; a link stays one."""
-    kept = path.resolve()
-    try:
-        # Made in a folder of its own beside it, so that no other file is in the way.
-        with tempfile.TemporaryDirectory(prefix=".mcf-plan-", dir=kept.parent) as folder:
-            new = Path(folder) / "book"
-            with zipfile.ZipFile(new, "w", zipfile.ZIP_DEFLATED) as file:
-                for name, content in parts:
-                    file.writestr(zipfile.ZipInfo(name), content, zipfile.ZIP_DEFLATED)
-            if kept.exists():
-                shutil.copymode(kept, new)
-            os.replace(new, kept)
-    except OSError as error:
-        raise OSError(error.errno, error.strerror, str(path)) from None
+def _write(path: Path, parts: Sequence[Tuple[str, bytes]]) -> None:
+    """Writes the parts as a file."""
+    packed = BytesIO()
+    with zipfile.ZipFile(packed, "w", zipfile.ZIP_DEFLATED) as file:
+        for name, content in parts:
+            file.writestr(zipfile.ZipInfo(name), content, zipfile.ZIP_DEFLATED)
+    write_bytes(path, packed.getvalue())
