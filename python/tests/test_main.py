@@ -20,6 +20,7 @@ from xml.etree import ElementTree
 
 from limits import HEARD
 
+from mcf_plan import Disagreement
 from mcf_plan.cli import main
 
 TOP = Path(__file__).resolve().parents[2]
@@ -580,6 +581,14 @@ class Command(unittest.TestCase):
         self.assertIn("no plan: short by 1", out)
         out, _ = self.run_it("what-if", self.nodes, self.arcs, text="\ufeffcap road 1\n")
         self.assertIn("what if> cap road 1\ncost 14.25 (2.75 more)", out)
+
+    def test_texts_of_a_wrong_answer_that_can_not_be_kept(self):
+        errors, full = io.StringIO(), OSError(28, "No space left on device", "/tmp/mcf-plan-1")
+        wrong = Disagreement("mcf check says of the answer: not valid", "p min 1 0\n", "s 0\n")
+        with contextlib.redirect_stderr(errors), mock.patch("tempfile.mkdtemp", side_effect=full):
+            with mock.patch("mcf_plan.problem.Problem.solve", side_effect=wrong):
+                self.assertEqual(main(["plan", self.nodes, self.arcs]), 8)
+        self.assertIn("the texts could not be kept: /tmp/mcf-plan-1: No space left on device", errors.getvalue())
 
     def test_the_file_of_commands_is_kept(self):
         lines = "".join(f"{word} commands\n" for word in ("write", "proof", "report"))

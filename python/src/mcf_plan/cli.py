@@ -158,9 +158,12 @@ def _kept(error: Disagreement) -> str:
     """Keeps the texts of a disagreement, and says where."""
     if not error.problem_text:
         return ""
-    folder = Path(tempfile.mkdtemp(prefix="mcf-plan-"))
-    (folder / "problem").write_bytes(as_bytes(error.problem_text))
-    (folder / "answer").write_bytes(as_bytes(error.answer_text))
+    try:
+        folder = Path(tempfile.mkdtemp(prefix="mcf-plan-"))
+        (folder / "problem").write_bytes(as_bytes(error.problem_text))
+        (folder / "answer").write_bytes(as_bytes(error.answer_text))
+    except OSError as failed:
+        return f"; the texts could not be kept: {of_system(failed)}"
     return f"; the texts are kept in {folder}, please report them"
 
 
