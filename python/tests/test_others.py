@@ -133,6 +133,10 @@ class Others(unittest.TestCase):
             "GLPK's `-w` has an `s` line and 5 `j` lines: the text is cut off", raw.replace("j 5 b 4 0\n", ""), "glpk"
         )
         self.refuse("the answer says that its flow is worth 15, and it is worth 14", raw.replace("14", "15"), "glpk")
+        self.refuse("line 2: much is no number", raw.replace("14", "much"), "glpk")
+        self.refuse("line 2: four is no whole number", raw.replace("4 5", "four 5"), "glpk")
+        for dual in ("inf", "nan", "1e999999999"):
+            self.assertEqual(answer_from(DIAMOND, raw.replace(" s 4 3", f" s 4 {dual}"), "glpk"), RIGHT)
         self.refuse(
             "by its potentials 1 unit more on arc 4 (2 to 4) would be worth more",
             raw.replace(" -4 -1", " -4 -3"),

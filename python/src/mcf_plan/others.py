@@ -21,15 +21,14 @@ from .dimacs import Answer, DimacsProblem, parse_answer, parse_problem
 from .formats import RETURN_CAPACITY, Text
 
 PROGRAMS = ("lemon", "glpk", "flows")
+"""Whose answers are read: see docs/OTHERS.md."""
 MOST_DIGITS = 60
 """So many has a number of an answer at most."""
-"""Whose answers are read: see docs/OTHERS.md."""
 
 
 class NotAnAnswer(ValueError):
     """The text is no answer, or its flow is not legal or not best. The message says where and why; `line` is the line
-    of
-    the text (None where it is none alone)."""
+    of the text (None where it is none alone)."""
 
     def __init__(self, words: str, line: Optional[int] = None):
         super().__init__(f"line {line}: {words}" if line else words)
@@ -228,6 +227,15 @@ def whole(word: str, line: int) -> int:
     return int(value)
 
 
+def _number(word: str) -> Optional[Decimal]:
+    """The number of a word; None where it is none, or has too many digits."""
+    try:
+        value = Decimal(word)
+    except InvalidOperation:
+        return None
+    return value if value.is_finite() and value.adjusted() < MOST_DIGITS else None
+
+
 def told_by_lines(problem: DimacsProblem, lines: List[Line]) -> Told:
     """What `s`, `f` and `v` lines say, or lines of one number an arc."""
     flows: List[Tuple[int, int, int, int]] = []
@@ -293,13 +301,15 @@ def told_by_glpk(problem: DimacsProblem, lines: List[Line]) -> Told:
             states = words[4:-1]
             if any(state not in ("f", "o") for state in states):
                 raise NotAnAnswer("GLPK says that it found no best plan", line)
-            if (int(words[2]), int(words[3])) != (problem.nodes, len(problem.arcs)):
+            if (whole(words[2], line), whole(words[3], line)) != (problem.nodes, len(problem.arcs)):
                 raise NotAnAnswer(
                     f"it is about {words[2]} nodes and {words[3]} arcs, and the problem has "
                     f"{problem.nodes} and {len(problem.arcs)}",
                     line,
                 )
             kind, worth = words[1], words[-1]
+            if _number(worth) is None:
+                raise NotAnAnswer(f"{worth} is no number", line)
         elif words[0] in ("i", "j") and worth is not None and len(words) >= 3:
             place = whole(words[1], line)
             primal = words[3] if kind == "bas" and len(words) == 5 else words[2]
@@ -320,11 +330,8 @@ def told_by_glpk(problem: DimacsProblem, lines: List[Line]) -> Told:
 
 def potentials_of_glpk(problem: DimacsProblem, rows: Dict[int, str]) -> Optional[List[int]]:
     """Potentials from the duals of GLPK's rows; None where these are missing or no whole numbers (interior point)."""
-    try:
-        duals = [Decimal(rows[node]) for node in range(1, problem.nodes + 1)]
-    except (KeyError, InvalidOperation):
-        return None
-    if any(dual != dual.to_integral_value() for dual in duals):
+    duals = [dual for dual in (_number(rows.get(node, "")) for node in range(1, problem.nodes + 1)) if dual is not None]
+    if len(duals) < problem.nodes or any(dual != dual.to_integral_value() for dual in duals):
         return None
     if problem.kind != "max":
         return [-int(dual) for dual in duals]
