@@ -100,6 +100,7 @@ class Arrays(unittest.TestCase):
             self.assertEqual((plan.cost, plan.flows.dtype, plan.flows.tolist()), (14, numpy.int64, [2, 2, 2, 0, 4]))
         short = solve_arrays(tails, heads, numpy.array([1, 2, 2, 3, 5]), costs, supplies)
         self.assertEqual((short.shortage, short.cut.dtype, short.cut.tolist()), (1, bool, [True, False, False, False]))
+        self.assertEqual(solve_arrays(*DIAMOND, lower_bounds=numpy.zeros(5, int)).flows.dtype, numpy.int64)
         unlimited = solve_arrays(tails, heads, numpy.array([numpy.inf] * 5), costs, supplies)
         self.assertEqual(unlimited.cost, 12)
         for dates in ("m8[ns]", "M8[ns]"):
@@ -121,8 +122,13 @@ class Arrays(unittest.TestCase):
             columns[place][0] = entry  # type: ignore[call-overload]
             with self.subTest(words), self.assertRaisesRegex(error, words):
                 solve_arrays(*columns)
-        with self.assertRaisesRegex(ValueError, "heads has 1 entry, and tails has 2"):
-            solve_arrays([0, 1], [1], [1, 1], [1, 1], [0, 0])
+        for heads, caps, lows, words in (
+            ([1], [1, 1], [0, 0], "heads has 1 entry, and tails has 2"),
+            ([1, 0], [1, 1, 1], [0, 0], "capacities has 3 entries, and tails has 2"),
+            ([1, 0], [1, 1], [0], "lower_bounds has 1 entry, and tails has 2"),
+        ):
+            with self.assertRaisesRegex(ValueError, words):
+                solve_arrays([0, 1], heads, caps, [1, 1], [0, 0], lows)
         with self.assertRaisesRegex(BeyondLimits, "arc 0 costs less than 0, and has no capacity"):
             solve_arrays([0], [1], None, [-1], [1, -1])
         with self.assertRaisesRegex(BeyondLimits, "take a larger unit"):

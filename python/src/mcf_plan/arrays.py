@@ -17,7 +17,7 @@ from array import array
 from collections.abc import Mapping, Set
 from dataclasses import dataclass, field
 from operator import gt, index, mul
-from typing import Any, Callable, List, Optional, Sequence, Union
+from typing import Any, Callable, Dict, List, Optional, Sequence, Union
 
 from .calls import Arrays, pointer_to
 from .deadline import Deadline
@@ -70,7 +70,8 @@ class ArrayProblem:
         supplies: Column,
         lower_bounds: Column = None,
     ):
-        self.is_numpy = any(hasattr(column, "__array__") for column in (tails, heads, capacities, costs, supplies))
+        columns = (tails, heads, capacities, costs, supplies, lower_bounds)
+        self.is_numpy = any(hasattr(column, "__array__") for column in columns)
         self.tails = wholes(tails, "tails")
         arcs = len(self.tails)
         self.heads = wholes(heads, "heads")
@@ -78,10 +79,11 @@ class ArrayProblem:
         self.caps: List[Optional[int]] = [None] * arcs if capacities is None else limits(capacities)
         self.costs = wholes(costs, "costs")
         self.supplies = wholes(supplies, "supplies")
-        for what in ("heads", "lows", "caps", "costs"):
-            if len(getattr(self, what)) != arcs:
-                count = len(getattr(self, what))
-                entries = "1 entry" if count == 1 else f"{count} entries"
+        others: Dict[str, Sequence[Any]] = {"heads": self.heads, "lower_bounds": self.lows}
+        others.update(capacities=self.caps, costs=self.costs)
+        for what, column in others.items():
+            if len(column) != arcs:
+                entries = "1 entry" if len(column) == 1 else f"{len(column)} entries"
                 raise ValueError(f"{what} has {entries}, and tails has {arcs}")
         self._check_ranges()
         self._text_caps = self._limited_caps()
