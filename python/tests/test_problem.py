@@ -1,6 +1,7 @@
 """Problems: exact numbers, arcs by name, and the spellings of other programs."""
 
 import sys
+import time
 import unittest
 from decimal import Decimal
 from fractions import Fraction
@@ -59,6 +60,30 @@ class Building(unittest.TestCase):
         for wrong in ("a to b", ("a", "b"), "rail", 3, -1):
             with self.subTest(wrong), self.assertRaises(KeyError):
                 problem.find_arc(wrong)
+
+    def test_arcs_that_come_and_go(self):
+        problem = Problem()
+        problem.add_arc("a", "b")
+        self.assertEqual(problem.find_arc("a to b"), 0)
+        problem.add_arc("b", "c", name="a to b")
+        self.assertEqual(problem.find_arc("a to b"), 1)
+        problem.add_arc("a", "b", name="road")
+        self.assertEqual(problem.find_arc("road"), 2)
+        problem.remove_last_arc()
+        self.assertEqual(problem.find_arc(("a", "b")), 0)
+        problem.replace_arc(1, problem.arcs[1]._replace(name="road"))
+        self.assertEqual((problem.find_arc("a to b"), problem.find_arc("road")), (0, 1))
+
+    def test_names_of_arcs_that_are_added_one_by_one(self):
+        """Each is listed once, and not all arcs anew: that would take 20 seconds here."""
+        problem = Problem()
+        for number in range(50_000):
+            problem.add_arc(f"town {number}", f"town {number + 1}")
+        begin = time.process_time()
+        for number in range(300):
+            problem.add_arc("town 1", "town 2", name=f"new {number}")
+            self.assertEqual(problem.find_arc(f"new {number}"), 50_000 + number)
+        self.assertLess(time.process_time() - begin, 5)
 
     def test_mistakes(self):
         problem = Problem()

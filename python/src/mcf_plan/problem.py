@@ -171,8 +171,10 @@ class Problem:
         self.sink = sink
         self.notes: List[str] = []
         self.places: Dict[str, Tuple[float, float]] = {}
-        self._numbers: Dict[Union[str, Tuple[str, str]], int] = {}  # -1: several
-        self._numbered = 0  # so many arcs are in _numbers; -1: they are to be listed anew
+        # The arcs by their names, and by their ends as a pair and as `TAIL to HEAD`; -1: several.
+        self._by_name: Dict[str, int] = {}
+        self._by_ends: Dict[Union[str, Tuple[str, str]], int] = {}
+        self._listed = 0  # so many arcs are in them
 
     def add_node(self, name: str, supply: Number = 0) -> None:
         """Adds a node that supplies so much, or demands it where below 0. Raises ValueError where it is there
@@ -226,9 +228,10 @@ class Problem:
             if not 0 <= number < len(self.arcs):
                 raise KeyError(f"there is no arc {number}: they are numbered from 0 to {len(self.arcs) - 1}")
             return number
-        if self._numbered != len(self.arcs):
-            self._number()
-        number = self._numbers.get(which, -2)
+        self._list_arcs()
+        number = self._by_name.get(which, -2) if isinstance(which, str) else -2  # A name goes before ends.
+        if number == -2:
+            number = self._by_ends.get(which, -2)
         if number == -2:
             raise KeyError(f"there is no arc {_called(which)}")
         if number == -1:
@@ -243,27 +246,29 @@ class Problem:
         """Puts another arc in the place of an arc."""
         before = self.arcs[number]
         if (before.tail, before.head, before.name) != (arc.tail, arc.head, arc.name):
-            self._numbered = -1
+            self._list_anew()
         self.arcs[number] = arc
 
     def remove_last_arc(self) -> None:
         """Takes the last arc away."""
         self.arcs.pop()
-        self._numbered = -1
+        if self._listed > len(self.arcs):
+            self._list_anew()
 
-    def _number(self) -> None:
-        """Lists the arcs by their ends, `TAIL to HEAD` and names; a name goes before `TAIL to HEAD` of another arc."""
-        numbers: Dict[Union[str, Tuple[str, str]], int] = {}
-        for number, arc in enumerate(self.arcs):
+    def _list_arcs(self) -> None:
+        """Lists the arcs that were added since they were listed."""
+        for number in range(self._listed, len(self.arcs)):
+            arc = self.arcs[number]
             keys: Tuple[Union[str, Tuple[str, str]], ...] = ((arc.tail, arc.head), f"{arc.tail} to {arc.head}")
             for key in keys:
-                numbers[key] = -1 if key in numbers else number
-        named: Dict[Union[str, Tuple[str, str]], int] = {}
-        for number, arc in enumerate(self.arcs):
+                self._by_ends[key] = -1 if key in self._by_ends else number
             if arc.name:
-                named[arc.name] = -1 if arc.name in named else number
-        numbers.update(named)
-        self._numbers, self._numbered = numbers, len(self.arcs)
+                self._by_name[arc.name] = -1 if arc.name in self._by_name else number
+        self._listed = len(self.arcs)
+
+    def _list_anew(self) -> None:
+        """Has all arcs listed once more where one is looked for."""
+        self._by_name, self._by_ends, self._listed = {}, {}, 0
 
     def copy(self) -> Problem:
         """The same problem, to be changed apart."""
