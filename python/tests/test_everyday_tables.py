@@ -12,6 +12,7 @@ import tempfile
 import unittest
 import zipfile
 from decimal import Decimal
+from fractions import Fraction
 from pathlib import Path
 
 from mcf_plan.cli import main
@@ -594,7 +595,15 @@ class Frames(unittest.TestCase):
             ("NA", ["Kiel", "Berlin", pandas.NA, 2.5], 12.5),
             ("infinity", ["Kiel", "Berlin", float("inf"), 2.5], 12.5),
             ("no cost", ["Kiel", "Berlin", 9, None], "row 0, column 'cost': .* the cost of a unit was expected"),
-            ("an infinite cost", ["Kiel", "Berlin", 9, float("inf")], "column 'cost': inf stands there"),
+            ("an infinite cost", ["Kiel", "Berlin", 9, float("inf")], "inf stands there; .*: only a capacity can be"),
+            ("a great cost", ["Kiel", "Berlin", 9, 1e300], r"1e\+300 stands there; .*, of at most 60 digits"),
+            ("many digits", ["Kiel", "Berlin", 10**70, 2.5], "0+... stands there; .*, of at most 60 digits"),
+            (
+                "a third",
+                ["Kiel", "Berlin", 9, Fraction(1, 3)],
+                "Fraction.1, 3. stands there; .*: write it with decimals",
+            ),
+            ("a half", ["Kiel", "Berlin", 9, Fraction(5, 2)], 12.5),
             ("a truth value", ["Kiel", "Berlin", True, 2.5], "TRUE stands there; .* truth value"),
             ("numpy's truth", ["Kiel", "Berlin", numpy.bool_(True), 2.5], "TRUE stands there; .* truth value"),
             ("a truth as a cost", ["Kiel", "Berlin", 9, numpy.bool_(False)], "FALSE stands there; .* truth value"),

@@ -49,6 +49,7 @@ NO_LIMIT = frozenset(
 
 MONEY = "€$£¥"
 _WELL_FORMED = re.compile(r"([+-]?)(\d[\d.,]*|[.,]\d+)([eE][+-]?\d{1,3})?", re.ASCII)
+_WITH_EXPONENT = re.compile(r"[+-]?[\d.,]+[eE][+-]?\d+", re.ASCII)
 _PLAIN_NAME = re.compile(r"[A-Z][a-z]{3,}( [A-Za-z0-9]+)*")
 _PLAIN_NUMBER = re.compile(r"[0-9]{1,30}")
 _JOINERS = "\u200c\u200d"
@@ -237,7 +238,7 @@ class Numbers(Dict[Any, Optional[Decimal]]):
         try:
             return capacity(cell) if self.has_limits else exact(cell)
         except (ValueError, TypeError):
-            raise CellFault("a number was expected") from None
+            raise CellFault("a number was expected" + number_hint(str(cell))) from None
 
     def _read_text(self, cell: str) -> Decimal:
         mark, thousands = self.sign.mark, self.sign.thousands
@@ -272,8 +273,10 @@ class Coordinates(Numbers):
 def number_hint(cell: str) -> str:
     """What to do about a cell that is no number, for the commonest mistakes."""
     lower = cell.lower()
-    if _WELL_FORMED.fullmatch(cell) and (re.search("[eE]", cell) or sum(map(str.isdigit, cell)) > 60):
+    if _WITH_EXPONENT.fullmatch(cell) or _WELL_FORMED.fullmatch(cell) and sum(map(str.isdigit, cell)) > 60:
         return ", of at most 60 digits"
+    if any(letter.isdecimal() and not letter.isascii() for letter in cell):
+        return ": write it with the digits 0 to 9"
     if ERROR.fullmatch(cell):
         return ", and this is an error of the spreadsheet"
     if lower in MISSING:
@@ -298,7 +301,9 @@ def number_hint(cell: str) -> str:
         return ", and this looks like a date"
     if re.fullmatch(r"[+-]?[\d.,]+\s*(?:(?i:k|mio|mill|tsd)\.?|M)", cell):
         return ": write the number out, thousands and millions too"
-    if re.match(r"0x|[+-]?[\d.,]+(\s*[½¼¾⅓⅔]|[_²³])", lower):
+    if re.fullmatch(r"[+-]?(\d+\s*)?([½¼¾⅓⅔]|\d+\s*/\s*\d+)", cell):
+        return ": write it with decimals, as 0.5 for a half"
+    if re.match(r"0x|[+-]?[\d.,]+[_²³]", lower):
         return ""
     if re.match(r"[+-]?[\d.,]+\s*[^\W\d]", cell):
         return ": leave the unit out; it can stand in the name of the column, as in 'capacity (t)'"
