@@ -203,6 +203,14 @@ class ReportTest(unittest.TestCase):
         self.assertEqual(where["west"][1], 0)  # The greatest y is north.
         self.assertEqual(where["north & <sea>"], (0, report.MAP_SIDE))
 
+    def test_a_place_that_is_missing(self) -> None:
+        """Where a node has no place, the picture is the one that it is without places."""
+        plan = towns().solve()
+        plain = report.svg_picture(plan, graphviz=False)
+        plan.problem.places = {name: (float(index), 0.0) for index, name in enumerate(list(plan.problem.nodes)[1:])}
+        self.assertEqual(report.svg_picture(plan, graphviz=False), plain)
+        self.assertFalse(report.is_map(plan.problem))
+
     def test_large_networks(self) -> None:
         """Places and columns of 50,000 nodes take seconds; a picture that can't be read is told, and not drawn."""
         problem = Problem()

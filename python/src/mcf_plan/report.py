@@ -32,7 +32,7 @@ from .tables import PLAN_COLUMNS, plan_rows
 
 Result = Union[Plan, Infeasible]
 
-__all__ = ["html_report", "svg_picture", "limit_text", "to_csv", "to_json", "layout", "number", "arc_rows"]
+__all__ = ["html_report", "svg_picture", "limit_text", "to_csv", "to_json", "is_map", "layout", "number", "arc_rows"]
 
 WORTH = {"min": "Cheapest plan", "max": "Most that can be sent", "asn": "Cheapest assignment"}
 # Graphviz draws larger networks slowly, and its pictures of them say little.
@@ -224,14 +224,19 @@ def _untangled(problem: Problem, columns: list[list[str]]) -> list[list[str]]:
     return columns
 
 
+def is_map(problem: Problem) -> bool:
+    """Whether the picture is a map: each node has a place (`problem.places`, from columns x and y of the table)."""
+    return bool(problem.nodes) and problem.places.keys() >= problem.nodes.keys()
+
+
 def layout(problem: Problem) -> dict[str, tuple[float, float]]:
     """Where each node stands in a picture, in points from its top left corner: node to (x, y).
 
-    Nodes with places (`problem.places`, from columns x and y of the table) stand there, north up. All others stand in
-    columns, from those that supply on the left to those that only take in on the right.
+    On a map nodes stand in their places, north up; elsewhere in columns, from those that supply on the left to those
+    that only take in on the right.
     """
     places = problem.places
-    if problem.nodes and all(name in places for name in problem.nodes):
+    if is_map(problem):
         xs, ys = zip(*(map(float, places[name]) for name in problem.nodes))
         west, north = min(xs), max(ys)
         extent = max(max(xs) - west, north - min(ys)) or 1.0
@@ -403,7 +408,7 @@ def _own_picture(result: Result) -> str:
 def _drawn_arcs(result: Result, where: Mapping[str, tuple[float, float]]) -> tuple[list[str], list[str]]:
     """The lines of the arcs, and their labels."""
     problem = result.problem
-    few, on_map = len(problem.arcs) <= GRAPHVIZ_ARCS, bool(problem.places)
+    few, on_map = len(problem.arcs) <= GRAPHVIZ_ARCS, is_map(problem)
     lines, labels = [], []
     seen: dict[tuple[str, str], int] = {}
     both = {(arc.tail, arc.head) for arc in problem.arcs}
@@ -429,7 +434,7 @@ def _drawn_arcs(result: Result, where: Mapping[str, tuple[float, float]]) -> tup
 def _drawn_nodes(result: Result, where: Mapping[str, tuple[float, float]], right: float) -> tuple[list[str], list[str]]:
     """The circles of the nodes, and their names: beside those at the left and right edge, above all others."""
     problem, cut = result.problem, _cut(result)
-    on_map = bool(problem.places)
+    on_map = is_map(problem)
     dots, names = [], []
     for name, (x, y) in where.items():
         supply = problem.nodes[name]
@@ -453,7 +458,7 @@ def svg_picture(result: Result, *, graphviz: Optional[bool] = None) -> str:
     """The network as an SVG picture: arcs as wide as their flow, full ones marked; of no plan, the cut.
 
     `graphviz` says who draws: True Graphviz, False the layout of this module, None (the default) Graphviz where `dot`
-    is installed, the network has at most 120 arcs and its nodes have no places. RuntimeError where Graphviz is asked
+    is installed, the network has at most 120 arcs and the picture is no map. RuntimeError where Graphviz is asked
     for and does not draw it, ValueError where the network is too large for a picture that can be read.
     """
     result.verify()
@@ -465,7 +470,7 @@ def _picture(result: Result, graphviz: Optional[bool] = None) -> str:
     too_large = not_drawn(result.problem)
     if too_large:
         raise ValueError(too_large)
-    wanted = graphviz is None and len(result.problem.arcs) <= GRAPHVIZ_ARCS and not result.problem.places
+    wanted = graphviz is None and len(result.problem.arcs) <= GRAPHVIZ_ARCS and not is_map(result.problem)
     if graphviz or wanted:
         picture = _by_graphviz(result)
         if picture is not None:

@@ -85,6 +85,8 @@ def read_tables(
                 raise arc_table.fault(tails.index(name), "from", ROW_OF_SUMS)
     _add_ends(problem, ends, node_sheet)
     _read_arcs(problem, arc_table, tails, heads)
+    if node_sheet is not None:
+        _tell_unplaced(problem, node_sheet)
     for sheet in (node_sheet, arc_sheet):
         problem.notes += [] if sheet is None else sheet.notes
     _check_sense(problem, node_table, arc_table, ends)
@@ -218,10 +220,25 @@ def _add_ends(problem: Problem, ends: Iterable[str], nodes: Optional[Sheet]) -> 
             )
         problem.nodes[end] = ZERO
     if nodes is not None and problem.kind != "asn" and alone:
-        told = ", ".join(alone[:5]) + (f" and {len(alone) - 5} more" if len(alone) > 5 else "")
         stand, supply = ("stands", "supplies") if len(alone) == 1 else ("stand", "supply")
         count = counted(len(alone), "node")
-        nodes.notes.append(f"{count} {stand} in the table of arcs alone, and {supply} nothing: {told}")
+        nodes.notes.append(f"{count} {stand} in the table of arcs alone, and {supply} nothing: {_some(alone)}")
+
+
+def _some(names: Sequence[str]) -> str:
+    """The first of some names, and how many more there are."""
+    return ", ".join(names[:5]) + (f" and {len(names) - 5} more" if len(names) > 5 else "")
+
+
+def _tell_unplaced(problem: Problem, nodes: Sheet) -> None:
+    """Notes nodes without a place where others have one: no map is drawn then."""
+    unplaced = [name for name in problem.nodes if name not in problem.places] if problem.places else []
+    if unplaced:
+        has = "has" if len(unplaced) == 1 else "have"
+        count = counted(len(unplaced), "node")
+        nodes.notes.append(
+            f"{nodes.name}: {count} {has} no place (x and y), so the picture is no map: {_some(unplaced)}"
+        )
 
 
 def _alike(name: str) -> str:
@@ -325,9 +342,8 @@ def _tell_lonely(problem: Problem, nodes: Table, ends: Collection[str]) -> None:
     for has_supply, what in ((True, "a supply or a demand and no arc"), (False, "neither a supply nor an arc")):
         names = [name for name in lonely if bool(problem.nodes[name]) == has_supply]
         if names:
-            told = ", ".join(names[:5]) + (f" and {len(names) - 5} more" if len(names) > 5 else "")
             count = "1 node has" if len(names) == 1 else f"{len(names)} nodes have"
-            problem.notes.append(f"{nodes.sheet.name}: {count} {what}: {told}")
+            problem.notes.append(f"{nodes.sheet.name}: {count} {what}: {_some(names)}")
 
 
 # ---------------------------------------------------------------- plans as tables

@@ -25,7 +25,7 @@ from ..plan import Disagreement, Infeasible, Plan
 from ..printing import visible
 from ..problem import Arc, exact
 from ..program import ProgramFailed, TimeLimit
-from ..report import html_text, layout, limit_text, not_drawn, number, savings, to_csv, to_json
+from ..report import html_text, is_map, layout, limit_text, not_drawn, number, savings, to_csv, to_json
 from ..rewrite import BeyondLimits, Meaningless, Unbounded
 from ..session import EditRefused, Session
 
@@ -139,7 +139,7 @@ class Board:
         self._lock = threading.Lock()
         self._not_drawn = not_drawn(session.problem)
         self._places = {} if self._not_drawn else layout(session.problem)
-        self._placed = bool(session.problem.places)
+        self._placed = is_map(session.problem)
         self._first = session.cost
         self._nodes, self._arcs = Rows(self._node_row), Rows(self._arc_row)
         self._result: Optional[Result] = None
