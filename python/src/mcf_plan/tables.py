@@ -438,7 +438,7 @@ def write_table(
 
 def _cell(text: str) -> Any:
     """A cell of a spreadsheet: a number where it is exactly one there."""
-    try:
-        return float(text) if exact(float(text)) == exact(text) else text
-    except ValueError:
+    if not text[-1:].isdigit():
         return text
+    # A number of at most 15 digits is always exactly one.
+    return float(text) if len(text) <= 15 or exact(float(text)) == exact(text) else text

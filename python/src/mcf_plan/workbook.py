@@ -205,10 +205,11 @@ class _Reader:
         try:
             with self.file.open(part) as raw:
                 for _, element in ElementTree.iterparse(raw):
-                    if _local(element) == "col" and _is_hidden(element, "width"):
+                    kind = _local(element)
+                    if kind == "col" and _is_hidden(element, "width"):
                         first, last = int(element.get("min", "1")), int(element.get("max", "1"))
                         self.hidden_columns.update(range(first - 1, min(last, MOST_COLUMNS)))
-                    elif _local(element) == "row":
+                    elif kind == "row":
                         cells = {place: cell for place, cell in self._cells(element) if not is_empty(cell)}
                         number = int(element.get("r") or number + 1)
                         if cells:
@@ -217,7 +218,7 @@ class _Reader:
                             lines.append(number)
                             rows.append(cells)
                         element.clear()
-                    elif _local(element) == "mergeCell":
+                    elif kind == "mergeCell":
                         merged.append(element.get("ref", ""))
             _mark_merged(dict(zip(lines, rows)), merged)
         except (ElementTree.ParseError, KeyError, ValueError, IndexError, zipfile.BadZipFile) as error:
@@ -406,8 +407,9 @@ def _relations_text(rows: Sequence[Tuple[str, str, str]]) -> str:
 def _sheet_text(rows: Rows) -> str:
     """A sheet as the part of a workbook."""
     out = [f'{HEAD}<worksheet xmlns="{MAIN}"><sheetData>']
+    columns = [_letters(place) for place in range(max(map(len, rows), default=0))]
     for number, row in enumerate(rows, 1):
-        cells = "".join(_cell_text(f"{_letters(place)}{number}", cell) for place, cell in enumerate(row) if cell != "")
+        cells = "".join(_cell_text(f"{column}{number}", cell) for column, cell in zip(columns, row) if cell != "")
         out.append(f'<row r="{number}">{cells}</row>')
     return "".join(out) + "</sheetData></worksheet>"
 
@@ -425,6 +427,8 @@ def _cell_text(name: str, cell: Any) -> str:
 
 def _escaped(text: str) -> str:
     """A text with what XML can't have by its number, as workbooks write it."""
+    if text.isprintable() and "_x" not in text:
+        return text
     text = re.sub(r"_(?=x[0-9A-Fa-f]{4}_)", "_x005F_", text)
     return re.sub(
         r"[^\t\n\x20-\ud7ff\ue000-\ufffd\U00010000-\U0010ffff]", lambda found: f"_x{ord(found[0]):04X}_", text
