@@ -112,6 +112,10 @@ class Told(unittest.TestCase):
                 session.set_cap(0, 2)
             with self.assertRaises(EditRefused):
                 session.set_supply("Ann", 2)
+            # Ann would be on the sink side, and her arcs would lead from there.
+            with self.assertRaisesRegex(EditRefused, "arc 1, Ann to early, does not lead from the source side"):
+                session.set_supply("Ann", -1)
+            self.assertEqual((session.cost, session.problem.nodes["Ann"]), (7, 1))
         flow = Problem("max", source="a", sink="b")
         flow.add_arc("a", "b", cap=3)
         with Session(flow) as session:

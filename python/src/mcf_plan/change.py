@@ -9,7 +9,7 @@ from .errors import DoesNotFit
 from .figures import Bounds, is_large
 from .formats import ArcRow
 from .lines import Form, supply_parts
-from .meaning import check_arc, check_node
+from .meaning import check_arc, check_node, check_sides
 from .problem import Arc
 from .room import find_room, room_of_the_next
 
@@ -61,8 +61,12 @@ class Change:
         """
         change = cls(rewriting)
         problem, known = rewriting.problem, len(rewriting.lines.forms)
-        for name in dict.fromkeys(nodes):
+        names = dict.fromkeys(nodes)
+        for name in names:
             check_node(problem, name)
+        if names and problem.kind == "asn":
+            check_sides(problem, names)
+        for name in names:
             change._supply(name)
         for k in sorted(set(arcs)):
             if k < known:

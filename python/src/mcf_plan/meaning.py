@@ -5,7 +5,7 @@ from __future__ import annotations
 
 from dataclasses import dataclass
 from decimal import Decimal
-from typing import List, Optional, Union
+from typing import Container, List, Optional, Union
 
 from .errors import Meaningless
 from .formats import counted
@@ -72,6 +72,14 @@ def check_node(problem: Problem, name: str) -> None:
         raise Meaningless(f"node {name} has a supply, which has no meaning in a maximum flow")
     if problem.kind == "asn" and abs(supply) != 1:
         raise Meaningless(f"node {name} supplies {plain(supply)}: in an assignment a node supplies 1, or demands 1")
+
+
+def check_sides(problem: Problem, names: Container[str]) -> None:
+    """Raises Meaningless where an arc of one of these nodes of an assignment does not lead from the source side to the
+    sink side."""
+    for number, arc in enumerate(problem.arcs):
+        if arc.tail in names or arc.head in names:
+            check_arc(problem, number)
 
 
 def check_arc(problem: Problem, number: int) -> None:
