@@ -167,6 +167,8 @@ class Meaning(unittest.TestCase):
                 problem.solve()
         with self.assertRaises(Meaningless):
             problem_of({"a": 1}, ["a b 0 1 0"], balance="at most").solve(surplus="keep")
+        with self.assertRaisesRegex(ValueError, "surplus is 'kept', and has to be 'refuse', 'keep' or a number"):
+            problem_of({"a": 1}, ["a b 0 1 0"]).solve(surplus="kept")
 
     def test_plan_of_every_kind_of_number(self):
         plan = self.solved(problem_of({"a": "0.5", "b": "-0.50"}, ["a b 0 1 1E+2"]))

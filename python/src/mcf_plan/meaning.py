@@ -32,7 +32,15 @@ class Options:
         """What a unit that is kept or not met costs; None where there is none."""
         if self.surplus == "refuse":
             return None
-        return ZERO if self.surplus == "keep" else exact(self.surplus, "the cost of what is kept or not met")
+        if self.surplus == "keep":
+            return ZERO
+        try:
+            return exact(self.surplus)
+        except ValueError:
+            raise ValueError(
+                f"surplus is {self.surplus!r}, and has to be 'refuse', 'keep' or a number: what a unit that is kept or "
+                "not met costs"
+            ) from None
 
 
 def check_meaning(problem: Problem, rest_cost: Optional[Decimal]) -> None:
