@@ -49,6 +49,14 @@ CASES = (
         'What would help: `--surplus keep` (in Python `surplus="keep"`), by which the rest is not met.',
     ),
     (
+        "a minus sign that is missing",
+        ["a 5", "b 5"],
+        ["a b 0 9"],
+        "refuse",
+        "There is no plan: all nodes together supply 10 and demand 0, so 10 are too many.\n"
+        "What would help: a demand, which is a supply below 0: is a minus sign missing?",
+    ),
+    (
         "more supply than demand",
         ["a 5", "b -3"],
         ["a b 0 9"],

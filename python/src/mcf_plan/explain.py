@@ -167,7 +167,9 @@ def _whole_network(infeasible: Infeasible) -> str:
         many = f"{plain(demanded - supplied)} {'is' if demanded - supplied == 1 else 'are'} not there"
         rest = "is not met"
     words = f"There is no plan: all nodes together supply {plain(supplied)} and demand {plain(demanded)}, so {many}."
-    if infeasible.rest_cost is None and infeasible.problem.balance == "equal":
+    if supplied and not demanded:
+        words += "\nWhat would help: a demand, which is a supply below 0: is a minus sign missing?"
+    elif infeasible.rest_cost is None and infeasible.problem.balance == "equal":
         words += f'\nWhat would help: `--surplus keep` (in Python `surplus="keep"`), by which the rest {rest}.'
     return words
 
