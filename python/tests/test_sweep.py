@@ -69,8 +69,13 @@ class Sweep(unittest.TestCase):
         self.assertEqual(row("0", "1", "0.25"), ["0", "0.25", "0.5", "0.75", "1"])
         self.assertEqual(row("3", "-1", "-3"), ["3", "0", "-1"])
         self.assertEqual(row("2", "2", "1"), ["2"])
-        for wrong in (("0", "1", "0"), ("0", "1", "-1"), ("1", "0", "1"), ("0", "1", "0.0001")):
-            with self.assertRaises(ValueError):
+        for wrong, words in (
+            (("0", "1", "0"), "steps of 0 do not lead from 0 to 1$"),
+            (("0", "1", "-1"), "steps of -1 do not lead from 0 to 1; steps of 1 do"),
+            (("1E+1", "0", "1E+1"), "steps of 10 do not lead from 10 to 0; steps of -10 do"),
+            (("0", "1E+2", "0.01"), "from 0 to 100 by 0.01 there are more than 10,000 values"),
+        ):
+            with self.assertRaisesRegex(ValueError, words):
                 row(*wrong)
 
     def test_examples(self):

@@ -18,7 +18,7 @@ from __future__ import annotations
 from decimal import Decimal
 from typing import Any, Callable, Dict, Iterable, Iterator, List, NamedTuple, Optional, Tuple
 
-from .problem import WIDE, Number, exact
+from .problem import WIDE, Number, exact, plain
 from .session import Session
 
 What = Tuple[Any, ...]
@@ -64,10 +64,12 @@ def row_of_values(first: Decimal, last: Decimal, step: Decimal) -> List[Decimal]
     """
     way = WIDE.subtract(last, first)
     if not step or way and (way > 0) != (step > 0):
-        raise ValueError(f"steps of {step} do not lead from {first} to {last}")
+        others = f"; steps of {plain(-step)} do" if step else ""
+        raise ValueError(f"steps of {plain(step)} do not lead from {plain(first)} to {plain(last)}{others}")
     count = int(WIDE.divide_int(way, step))
     if count >= MOST_VALUES:
-        raise ValueError(f"from {first} to {last} by {step} there are more than {MOST_VALUES:,} values")
+        row = f"from {plain(first)} to {plain(last)} by {plain(step)}"
+        raise ValueError(f"{row} there are more than {MOST_VALUES:,} values")
     values = [WIDE.add(first, WIDE.multiply(step, Decimal(number))) for number in range(count + 1)]
     return values if values[-1] == last else [*values, last]
 
