@@ -61,6 +61,21 @@ class Building(unittest.TestCase):
             with self.subTest(wrong), self.assertRaises(KeyError):
                 problem.find_arc(wrong)
 
+    def test_names_that_are_no_texts(self):
+        problem = Problem()
+        for name in (1, 2.5, None, True, ("a", "b")):
+            with self.subTest(name):
+                for wrong in (
+                    lambda: problem.add_node(name),
+                    lambda: problem.add_arc(name, "b"),
+                    lambda: problem.add_arc("a", name),
+                ):
+                    with self.assertRaisesRegex(TypeError, "a name is .* has to be a text"):
+                        wrong()
+        with self.assertRaisesRegex(TypeError, "a name is 7, of type int"):
+            problem.add_arc("a", "b", name=7)
+        self.assertEqual((problem.nodes, problem.arcs), ({}, []))
+
     def test_arcs_that_come_and_go(self):
         problem = Problem()
         problem.add_arc("a", "b")

@@ -179,6 +179,7 @@ class Problem:
     def add_node(self, name: str, supply: Number = 0) -> None:
         """Adds a node that supplies so much, or demands it where below 0. Raises ValueError where it is there
         already."""
+        _check_name(name)
         if name in self.nodes:
             raise ValueError(f"node {name!r} is there already")
         self.nodes[name] = exact(supply, f"the supply of {name}")
@@ -209,6 +210,8 @@ class Problem:
         self, tail: str, head: str, low: Number, cap: Optional[Number], cost: Number, name: Optional[str]
     ) -> Arc:
         """An arc of exact numbers. Raises ValueError where one is none, or low is above cap."""
+        for text in (tail, head) if name is None else (tail, head, name):
+            _check_name(text)
         label = name or f"{tail} to {head}"
         least = exact(low, f"the lower bound of {label}")
         most = capacity(cap, f"the capacity of {label}")
@@ -352,6 +355,12 @@ class Problem:
         from .rewrite import Options, solve
 
         return solve(self, Options(surplus), program, time_limit, progress)
+
+
+def _check_name(name: Any) -> None:
+    """Raises TypeError where a name is no text: numbers and others as names would stop what is made of a plan."""
+    if not isinstance(name, str):
+        raise TypeError(f"a name is {name!r}, of type {type(name).__name__}, and has to be a text (str)")
 
 
 def _called(which: Union[str, Tuple[str, str]]) -> str:
