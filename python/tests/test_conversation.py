@@ -45,6 +45,21 @@ class Names(unittest.TestCase):
             ["cost 3 (1 more)", "cost 4 (1 more)", "no plan: short by 1; `why` tells more", "None True"],
         )
 
+    def test_several_arcs_of_one_name(self) -> None:
+        problem = roads()
+        for _ in range(2):
+            problem.add_arc("a", "b", cap=1, cost=9, name="A 7")
+        self.assertEqual(
+            answers("cap 'A 7' 2", "cap '#3' 2", problem=problem)[:2],
+            [
+                "refused, nothing is changed: there are several arcs A 7: say which by its number: they are #3, #4",
+                "cost 11, as before",
+            ],
+        )
+
+    def test_the_minus_sign_of_a_text(self) -> None:
+        self.assertEqual(answers("supply b \N{MINUS SIGN}4", "supply a 4"), answers("supply b -4", "supply a 4"))
+
 
 class Groups(unittest.TestCase):
     def test_group(self) -> None:

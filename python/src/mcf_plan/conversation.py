@@ -69,10 +69,11 @@ def one(words: List[str]) -> str:
 
 
 def number(text: str) -> str:
-    """A number as it was typed. Raises EditRefused where it has a comma, which may be meant in two ways."""
+    """A number as it was typed, or pasted with the minus sign of a text. Raises EditRefused where it has a comma, which
+    may be meant in two ways."""
     if "," in text:
         raise EditRefused(f"{text} is no number; write a point before the decimals, and nothing between thousands")
-    return text
+    return text.replace("\N{MINUS SIGN}", "-")
 
 
 class Conversation:
@@ -192,7 +193,9 @@ class Conversation:
         """What may have been meant by words that name nothing, or several arcs, in words."""
         problem = self.session.problem
         ends = tuple(word for word in words[:3] if word != "to")[:2]
-        several = [k for k, arc in enumerate(problem.arcs, 1) if (arc.tail, arc.head) == ends]
+        several = [
+            k for k, arc in enumerate(problem.arcs, 1) if (arc.tail, arc.head) == ends or words[:1] == [arc.name]
+        ]
         if len(several) > 1:
             return ": they are " + ", ".join(f"#{k}" for k in several[:MOST_TOLD]) + ", .." * (len(several) > MOST_TOLD)
         known = {*problem.nodes, *(arc.name for arc in problem.arcs if arc.name)}

@@ -144,6 +144,10 @@ def total_of(numbers: Iterable[Decimal]) -> Decimal:
     return total
 
 
+class SeveralArcs(KeyError):
+    """More than one arc is called so."""
+
+
 class Problem:
     """A problem in the words of its tables. It grows by `add_node` and `add_arc`, and answers by `solve`.
 
@@ -224,7 +228,7 @@ class Problem:
     def find_arc(self, which: ArcKey) -> int:
         """The number of an arc by its number, its name, `TAIL to HEAD`, or the pair (tail, head).
 
-        Raises KeyError where there is none or more than one.
+        Raises KeyError where there is none, and SeveralArcs, which is one too, where there are more.
         """
         if not isinstance(which, (str, tuple)):
             number = operator.index(which)
@@ -238,7 +242,7 @@ class Problem:
         if number == -2:
             raise KeyError(f"there is no arc {_called(which)}")
         if number == -1:
-            raise KeyError(f"there are several arcs {_called(which)}: say which by its number")
+            raise SeveralArcs(f"there are several arcs {_called(which)}: say which by its number")
         return number
 
     def append_arc(self, arc: Arc) -> None:

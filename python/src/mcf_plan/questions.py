@@ -17,7 +17,7 @@ from .formats import counted
 from .outputs import write_text
 from .plan import Infeasible, Plan
 from .printing import print_table, say
-from .problem import WIDE, Problem, exact, plain
+from .problem import WIDE, Problem, SeveralArcs, exact, plain
 from .progress import Progress
 from .report import json_text, to_json
 from .sensitivity import Ranges, SupplyPrice, ranges, supply_prices
@@ -40,9 +40,12 @@ def arc_of(problem: Problem, words: str) -> int:
     [0, 0, 0, 0]
     """
     words = unicodedata.normalize("NFC", words)  # as the names of tables
+    parts: List[str] = []
     try:
         try:
             return problem.find_arc(words)
+        except SeveralArcs:
+            raise
         except KeyError:
             parts = _parts_of(words)
             if len(parts) == 1 and parts[0].startswith("#") and parts[0][1:].isdecimal():
