@@ -146,6 +146,20 @@ class NetworkxBackend(unittest.TestCase):
         with self.assertRaises(nx.NetworkXUnfeasible):
             backend.network_simplex(G)
 
+    @unittest.skipUnless(find_spec("numpy"), "no numpy here: its numbers in a graph are not tried")
+    def test_infinite_numbers_of_numpy(self) -> None:
+        import networkx as nx
+        import numpy
+
+        G = nx.DiGraph()
+        G.add_node("a", demand=-4)
+        G.add_node("b", demand=4)
+        for kind in (numpy.float16, numpy.float32, numpy.float64):
+            G.add_edge("a", "b", weight=2, capacity=kind("inf"))
+            self.assertEqual(backend.network_simplex(G), nx.network_simplex(G))
+            G.add_edge("a", "b", weight=kind("inf"), capacity=9)
+            self.assertEqual(answered(backend.network_simplex, G), answered(nx.network_simplex, G))
+
     def test_great_capacities(self) -> None:
         import networkx as nx
 

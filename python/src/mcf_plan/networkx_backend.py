@@ -64,7 +64,7 @@ FUNCTIONS = ALGORITHMS + (
 
 def number(value: Any, what: str) -> Union[Decimal, float]:
     """The exact decimal of a number, or an infinite float. Raises NetworkXError where it is none."""
-    if isinstance(value, (float, Decimal)) and math.isinf(value):
+    if is_infinite(value):
         return math.inf if value > 0 else -math.inf
     try:
         return exact(value, what)
@@ -75,8 +75,9 @@ def number(value: Any, what: str) -> Union[Decimal, float]:
 
 
 def is_infinite(value: Any) -> bool:
-    """Whether a number is infinite, of either sign."""
-    return isinstance(value, (float, Decimal)) and math.isinf(value)
+    """Whether a number is infinite, of either sign; short floats of numpy too, which are no floats of Python."""
+    is_number = isinstance(value, numbers.Number)
+    return is_number and value in (math.inf, -math.inf)
 
 
 class Like:
