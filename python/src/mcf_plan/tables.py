@@ -190,6 +190,10 @@ def _read_nodes(problem: Problem, table: Table, ends: Collection[str]) -> None:
         for name, row, east, north in zip(names, range(len(names)), table.numbers("x"), table.numbers("y")):
             if not is_empty(cells[0][row]) and not is_empty(cells[1][row]):
                 problem.places[name] = float(east), float(north)
+    elif table.has("x") or table.has("y"):
+        there, other = ("x", "y") if table.has("x") else ("y", "x")
+        header = sheet.header[table.found.places[there]]
+        sheet.notes.append(f"{sheet.name}: the column {header!r} is left aside, since none says {called(other)}")
     table.tell_sign()
 
 
