@@ -58,6 +58,16 @@ class Interrupted(io.FileIO):
         raise KeyboardInterrupt
 
 
+class Watched(io.FileIO):
+    """A file of which it is kept who may read it while it is written."""
+
+    modes = []
+
+    def write(self, content):
+        self.modes.append(stat.S_IMODE(os.fstat(self.fileno()).st_mode))
+        return super().write(content)
+
+
 def plan():
     problem = Problem()
     problem.add_node("Kiel", 5)
@@ -178,8 +188,10 @@ class OfAnyKind(Outputs):
             path.chmod(mode)
             write_text(path, "today")
             self.assertEqual(stat.S_IMODE(path.stat().st_mode), mode)
-        write_text(new, "today")
-        self.assertEqual(stat.S_IMODE(new.stat().st_mode), 0o640)
+        with mock.patch.object(outputs, "open", Watched, create=True):
+            write_text(path, "today")
+            write_text(new, "today")
+        self.assertEqual((stat.S_IMODE(new.stat().st_mode), Watched.modes), (0o640, [0o600, 0o640]))
 
     @unittest.skipIf(os.geteuid(), "another owner wants root: what becomes of the owner of a file was not looked at")
     def test_owner(self):
@@ -242,6 +254,15 @@ class Closed(Outputs):
             with self.assertRaises(PermissionError):
                 write_text(self.folder / "new.csv", "today")
         self.assertEqual(self.path.read_text(), "today")
+
+    @unittest.skipIf(os.geteuid(), "another owner wants root: a file of another was not written")
+    def test_a_file_of_another(self):
+        """Nobody but root can give a file away, so it is written in place."""
+        os.chown(self.path, 0, 0)
+        self.path.chmod(0o666)
+        with as_nobody():
+            write_text(self.path, "today")
+        self.assertEqual((self.path.read_text(), self.path.stat().st_uid, len(self.names())), ("today", 0, 3))
 
     def test_no_folder(self):
         for path in (self.folder / "nowhere" / "plan.csv", self.path / "plan.csv", self.folder):

@@ -66,8 +66,10 @@ def _is_printed_to(status: os.stat_result) -> bool:
 def _replace(path: str, content: bytes, old: Optional[os.stat_result]) -> None:
     """Writes a file that takes the place of what is there once it is whole, with the mode and the owner of that."""
     new = os.path.join(os.path.dirname(path), f".mcf-plan-{os.urandom(8).hex()}")
+    # What only its owner may read is not shown to others while it is written.
+    mode = 0o666 if old is None else 0o600
     try:
-        with open(new, "xb") as file:
+        with open(new, "xb", opener=lambda name, flags: os.open(name, flags, mode)) as file:
             file.write(content)
         if old is not None:
             own = os.stat(new)
