@@ -181,8 +181,8 @@ class Problem:
         self._listed = 0  # so many arcs are in them
 
     def add_node(self, name: str, supply: Number = 0) -> None:
-        """Adds a node that supplies so much, or demands it where below 0. Raises ValueError where it is there
-        already."""
+        """Adds a node that supplies so much, or demands it where below 0. Raises ValueError where it is there already,
+        TypeError where its name is no text."""
         _check_name(name)
         if name in self.nodes:
             raise ValueError(f"node {name!r} is there already")
@@ -201,7 +201,8 @@ class Problem:
         """Adds an arc and returns its number, from 0. Ends that are not there yet are added with supply 0; in `asn`
         with 1 for a tail, and -1 for a head.
 
-        `cap` None, or infinite, is no limit. Raises ValueError where low is above cap.
+        `cap` None, or infinite, is no limit. Raises ValueError where low is above cap, TypeError where a name is no
+        text.
         """
         arc = self.make_arc(tail, head, low, cap, cost, name)
         for end, supply in ((tail, ONE), (head, -ONE)):
@@ -213,7 +214,8 @@ class Problem:
     def make_arc(
         self, tail: str, head: str, low: Number, cap: Optional[Number], cost: Number, name: Optional[str]
     ) -> Arc:
-        """An arc of exact numbers. Raises ValueError where one is none, or low is above cap."""
+        """An arc of exact numbers. Raises ValueError where one is none, or low is above cap, TypeError where a name is
+        no text."""
         for text in (tail, head) if name is None else (tail, head, name):
             _check_name(text)
         label = name or f"{tail} to {head}"
