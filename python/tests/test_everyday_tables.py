@@ -467,6 +467,19 @@ class Workbooks(InFolder):
         self.assertTrue(errors.endswith("nowhere/plan.xlsx: No such file or directory\n"), errors)
 
     @needs("openpyxl")
+    def test_an_empty_file_becomes_a_workbook(self):
+        """As one that `mktemp` or `tempfile` has made for it; to be read it is refused as before."""
+        import openpyxl
+
+        path = book("book.xlsx", nodes=NODES, arcs=[HEAD, ["Kiel", "Berlin", 9, 2.5]])
+        for name in ("new.xlsx", "new.xlsx:May"):
+            Path("new.xlsx").write_bytes(b"")
+            self.assertEqual(self.told(path, "--table", name), ("0: cost 12.5", ""))
+            self.assertEqual(openpyxl.load_workbook("new.xlsx").sheetnames, [name.partition(":")[2] or "plan"])
+        Path("new.xlsx").write_bytes(b"")
+        self.assertIn("this is no workbook", run("new.xlsx")[2])
+
+    @needs("openpyxl")
     def test_tables_that_are_not_written(self):
         path = book("book.xlsx", nodes=NODES, arcs=[HEAD, ["Kiel", "Berlin", 9, 2.5]])
         before = Path(path).read_bytes()

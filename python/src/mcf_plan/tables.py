@@ -403,10 +403,10 @@ def check_output(path: Union[str, Path], inputs: Sequence[str] = ()) -> None:
     ending = file.suffix.lower()
     if ending not in (".csv", ".tsv", *WORKBOOKS):
         raise TableFault(f"{file.name}: a table is written as .csv, .tsv or .xlsx, or as a sheet by book.xlsx:SHEET")
-    if ending in WORKBOOKS and sheet is None and file.exists():
-        from .workbook import sheet_names
+    if ending in WORKBOOKS and sheet is None:
+        from .workbook import is_empty_file, sheet_names
 
-        others = [name for name in sheet_names(file) if name != "plan"]
+        others = [] if is_empty_file(file) else [name for name in sheet_names(file) if name != "plan"]
         if others:
             raise TableFault(
                 f"{file.name}: it has other sheets, {', '.join(map(repr, others))}; {file.name}:plan writes a sheet "

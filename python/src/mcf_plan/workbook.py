@@ -58,6 +58,12 @@ def sheet_names(path: Path) -> List[str]:
         return [tab.name for tab in _tabs(file, path) if _has_cells(file.read(tab.part))]
 
 
+def is_empty_file(path: Path) -> bool:
+    """Whether a workbook that is written takes nothing's place: the file is not there, or it is empty, as one that was
+    made for it."""
+    return not path.exists() or path.is_file() and not path.stat().st_size
+
+
 def read_sheet(path: Path, name: str) -> Sheet:
     """The cells of a sheet. Raises TableFault where there is no such sheet, or it can't be read."""
     with _opened(path) as file:
@@ -359,7 +365,7 @@ def write_sheet(path: Path, name: str, rows: Rows) -> None:
     replaced. Raises TableFault where that sheet has formulas of its own, or the name is not one of a sheet."""
     if not re.fullmatch(r"[^\[\]:*?/\\']{1,31}", name):
         raise TableFault(f"{name!r} is no name of a sheet: it has at most 31 letters, and none of [ ] : * ? / \\ '")
-    if not path.exists():
+    if is_empty_file(path):
         write_workbook(path, name, rows)
         return
     with _opened(path) as file:
