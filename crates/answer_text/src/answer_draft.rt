@@ -39,7 +39,11 @@ impl Model for AnswerDraft {
 impl AnswerDraft {
     /// Before any line of an answer to a problem of this size.
     pub fn new(alloc: Global, nodes: u32, arcs: u32) -> Self
-        ensures { result ≡ record { nodes = nodes; arcs = arcs; said = record { value = None; flows = []; potentials = []; shortage = None; cut = [] } } }
+        ensures { result ≡ record {
+          nodes = nodes;
+          arcs = arcs;
+          said = record { value = None; flows = []; potentials = []; shortage = None; cut = [] };
+        } }
     {
         AnswerDraft {
             nodes,
@@ -73,7 +77,8 @@ impl AnswerDraft {
 
     /// Takes an `s` line, after its designator.
     fn take_value(&mut self, fields: Words) -> Result<(), LineError>
-        ensures { TakesAnswerAs result (answer_fault_of (read_value self.old.said fields.entry)) self.old
+        ensures { TakesAnswerAs result
+            (answer_fault_of (read_value self.old.said fields.entry)) self.old
             (record self.old.said { value = Some (value_said fields.entry) }) self.new }
     {
         let value = self.read_value(fields)?;
@@ -83,8 +88,11 @@ impl AnswerDraft {
 
     /// Takes an `f` line, after its designator.
     fn take_flow(&mut self, fields: Words) -> Result<(), LineError>
-        ensures { TakesAnswerAs result (answer_fault_of (read_flow self.old.nodes self.old.arcs self.old.said fields.entry)) self.old
-            (record self.old.said { flows = self.old.said.flows ++ flow_said fields.entry ∷ [] }) self.new }
+        ensures { TakesAnswerAs result
+            (answer_fault_of
+            (read_flow self.old.nodes self.old.arcs self.old.said fields.entry)) self.old
+            (record self.old.said { flows = self.old.said.flows ++ flow_said fields.entry ∷ [] })
+            self.new }
     {
         let flow = self.read_flow(fields)?;
         self.flows.push(flow)?;
@@ -93,8 +101,13 @@ impl AnswerDraft {
 
     /// Takes a `v` line, after its designator.
     fn take_potential(&mut self, fields: Words) -> Result<(), LineError>
-        ensures { TakesAnswerAs result (answer_fault_of (read_potential self.old.nodes self.old.arcs self.old.said fields.entry)) self.old
-            (record self.old.said { potentials = self.old.said.potentials ++ potential_said fields.entry ∷ [] }) self.new }
+        ensures { TakesAnswerAs result
+            (answer_fault_of
+            (read_potential self.old.nodes self.old.arcs self.old.said fields.entry))
+            self.old (record self.old.said {
+              potentials =
+                  self.old.said.potentials ++ potential_said fields.entry ∷ [];
+            }) self.new }
     {
         let potential = self.read_potential(fields)?;
         self.potentials.push(potential)?;
@@ -103,7 +116,8 @@ impl AnswerDraft {
 
     /// Takes an `i` line, after its designator.
     fn take_shortage(&mut self, fields: Words) -> Result<(), LineError>
-        ensures { TakesAnswerAs result (answer_fault_of (read_shortage self.old.said fields.entry)) self.old
+        ensures { TakesAnswerAs result
+            (answer_fault_of (read_shortage self.old.said fields.entry)) self.old
             (record self.old.said { shortage = Some (shortage_said fields.entry) }) self.new }
     {
         let shortage = self.read_shortage(fields)?;
@@ -113,8 +127,10 @@ impl AnswerDraft {
 
     /// Takes a `k` line, after its designator.
     fn take_cut_node(&mut self, fields: Words) -> Result<(), LineError>
-        ensures { TakesAnswerAs result (answer_fault_of (read_cut_node self.old.nodes self.old.said fields.entry)) self.old
-            (record self.old.said { cut = self.old.said.cut ++ cut_node_said fields.entry ∷ [] }) self.new }
+        ensures { TakesAnswerAs result
+            (answer_fault_of (read_cut_node self.old.nodes self.old.said fields.entry)) self.old
+            (record self.old.said { cut = self.old.said.cut ++ cut_node_said fields.entry ∷ [] })
+            self.new }
     {
         let node = self.read_cut_node(fields)?;
         self.cut.push(node)?;

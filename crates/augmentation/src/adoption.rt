@@ -58,7 +58,8 @@ pub(crate) fn take_back(flow: &mut Tracked<i64>, excess: &mut Excess, attempt: &
     requires excess { IsJournalFor (length excess.old) attempt.now.trial.excess }
     requires since { (es : List ℤ) × IsSince attempt.now.trial.excess es excess.old }
     ensures written { IsWritten flow.old flow.new }
-    ensures flow { flow.new.entries ≡ flow_before attempt.now.wanted.changes.items flow.old.entries }
+    ensures flow { flow.new.entries
+        ≡ flow_before attempt.now.wanted.changes.items flow.old.entries }
     ensures excess { IsBefore attempt.now.trial.excess excess.old excess.new }
 {
     write_back(flow, &attempt.wanted.changes);

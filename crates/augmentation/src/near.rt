@@ -103,7 +103,8 @@ pub(crate) fn raise(
     requires held { IsHeldIn graph.now.rows flow.now.whole scratch.old.tree }
     requires step { AreInStep scratch.old.tree potentials.old.entries }
     ensures written { IsWritten potentials.old potentials.new }
-    ensures shortest { IsTrue result → AreShortest graph.now.rows flow.now.entries potentials.new.entries }
+    ensures shortest { IsTrue result
+        → AreShortest graph.now.rows flow.now.entries potentials.new.entries }
     ensures kept { OnFalse result (potentials.new ≡ potentials.old) }
     ensures scratch_in { length scratch.new.tree.labels ≡ length scratch.old.tree.labels }
     ensures held { IsHeldIn graph.now.rows flow.now.whole scratch.new.tree }

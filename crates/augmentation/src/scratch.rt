@@ -125,7 +125,8 @@ impl Scratch {
 
     /// Forgets the labels that are held, as is to be where pushes begin with a flow of another table.
     pub fn forget(&mut self)
-        ensures { self.new ≡ record self.old { tree = record self.old.tree { is_lost = true; are_apart = true } } }
+        ensures { self.new
+            ≡ record self.old { tree = record self.old.tree { is_lost = true; are_apart = true } } }
     {
         self.tree.forget();
     }

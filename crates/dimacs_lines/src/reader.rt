@@ -43,7 +43,8 @@ fn take_cut<T: LineTaker>(
     taker: &mut T,
 ) -> Result<(), LineError>
     ensures { (setting : T.Setting) (before : List (List ℕ)) → T.holds setting before taker.old
-        → TakesCut (T.rule setting) (T.holds setting) result before cutter.now.line complete taker.new }
+        → TakesCut (T.rule setting) (T.holds setting) result before cutter.now.line complete
+        taker.new }
 {
     match cutter.line() {
         None => Err(LineFault::TooLong.into()),

@@ -102,7 +102,12 @@ impl Problem {
     /// A problem of what its lines say. Its marks and arcs have to keep the limits and the rules of the kind.
     pub fn new(size: Size, marks: Vec<NodeMark>, arcs: Vec<ArcRow>) -> Self
         requires { IsProblem size.kind size.nodes marks.items arcs.items }
-        ensures { result ≡ record { kind = size.kind; nodes = size.nodes; marks = marks.items; arcs = arcs.items } }
+        ensures { result ≡ record {
+          kind = size.kind;
+          nodes = size.nodes;
+          marks = marks.items;
+          arcs = arcs.items;
+        } }
     {
         Problem {
             kind: size.kind,

@@ -77,7 +77,8 @@ fn change_arc(
     ensures written { IsWritten flow.old flow.new }
     ensures led { IsLed journal.old journal.new excess.old excess.new }
     ensures same { result ≡ false → flow.new.entries ≡ flow.old.entries }
-    ensures before { IsTrue result → slice_set flow.new.entries change.new.arc change.new.flow ≡ flow.old.entries }
+    ensures before { IsTrue result
+        → slice_set flow.new.entries change.new.arc change.new.flow ≡ flow.old.entries }
     ensures changed { IsTrue result → AreChanged graph.now.rows ranks.now
         flow.old.entries excess.old flow.new.entries excess.new }
 {
@@ -188,7 +189,8 @@ pub fn exchange(
     requires flow { IsPseudoflow (length excess.old) graph.now.rows flow.old.entries }
     requires small { AreSmall excess.old }
     requires trial { IsTrialFor (length excess.old) trial.old }
-    ensures some { IfSome result (AreExchanged graph.now flow.old.entries excess.old flow.new.entries excess.new) }
+    ensures some { IfSome result
+        (AreExchanged graph.now flow.old.entries excess.old flow.new.entries excess.new) }
     ensures written { IsWritten flow.old flow.new }
     ensures before { flow_before changes.new.items flow.new.entries ≡ flow.old.entries }
     ensures trial { IsTrialFor (length excess.old) trial.new }

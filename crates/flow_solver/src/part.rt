@@ -94,7 +94,8 @@ pub fn row_before(net: &Network, log: &[Part], k: u32) -> Option<ArcRow>
 /// What a node had to send out before all that is logged, if it is a node.
 pub fn supply_before(net: &Network, log: &[Part], id: u32) -> Option<i64>
     requires { CanTakeBackAll log.now net.now }
-    ensures node { IsNode net.now.nodes id → result ≡ Some (reduced_supply (before_all log.now net.now).demand id) }
+    ensures node { IsNode net.now.nodes id
+        → result ≡ Some (reduced_supply (before_all log.now net.now).demand id) }
     ensures no_node { ¬ IsNode net.now.nodes id → result ≡ None }
 {
     if id > net.nodes() {

@@ -15,7 +15,8 @@ pub struct Potentials {
 
 /// Whether no potential is below 0: then there are no greater ones, since none is above 0.
 pub fn are_none_below_0(potentials: &[i64]) -> bool
-    ensures { IsTrue result → (v : ℕ) → v < length potentials.now → pos 0 ≤ℤ number_at potentials.now v }
+    ensures { IsTrue result → (v : ℕ) → v < length potentials.now
+        → pos 0 ≤ℤ number_at potentials.now v }
 {
     for potential in potentials {
         if *potential < 0 {

@@ -62,7 +62,8 @@ pub fn push_and_raise(
     ensures pushed { ArePushes graph.now.rows result.count
         flow.old.entries excess.old flow.new.entries excess.new }
     ensures parted { IsParted graph.now.rows flow.new.entries excess.new }
-    ensures marked { IsTrue result.are_marked → AreOnSide Ahead graph.now.rows flow.new.entries excess.new scratch.new.marks }
+    ensures marked { IsTrue result.are_marked
+        → AreOnSide Ahead graph.now.rows flow.new.entries excess.new scratch.new.marks }
     ensures scratch_in { length scratch.new.tree.labels ≡ length excess.new }
     ensures held { IsHeldIn graph.now.rows flow.new.whole scratch.new.tree }
     ensures step { KeepStep potentials.new scratch.new }

@@ -87,7 +87,8 @@ impl Network {
     pub(crate) fn new(alloc: Global, frame: Frame, arcs: Vec<ArcRow>) -> Result<Network, AllocError>
         requires { CanBegin frame.goal frame.supplies.items arcs.items frame.room }
         ensures { IfOk result
-            (λ n. n ≡ instance_of (vec_len frame.supplies) frame.goal frame.supplies.items arcs.items frame.room) }
+            (λ n. n ≡ instance_of (vec_len frame.supplies) frame.goal frame.supplies.items
+            arcs.items frame.room) }
     {
         let Frame {
             goal,

@@ -104,7 +104,8 @@ fn frame_of(alloc: Global, problem: &Problem, extra: u32) -> Result<Frame, Alloc
     ensures begins { IfOk result
         (λ frame. CanBegin frame.goal frame.supplies.items problem.now.arcs frame.room) }
     ensures instance { IfOk result
-        (λ frame. instance_of (vec_len frame.supplies) frame.goal frame.supplies.items problem.now.arcs frame.room ≡ first problem.now extra) }
+        (λ frame. instance_of (vec_len frame.supplies) frame.goal frame.supplies.items
+        problem.now.arcs frame.room ≡ first problem.now extra) }
 {
     let kind = problem.kind();
     let marks = problem.marks();
