@@ -1,4 +1,4 @@
-//! Containers of nodes and of other places of tables, and tables that are made together.
+//! Containers of nodes, of the arcs of a walk and of other places of tables, and tables that are made together.
 #![tactic(auto)]
 
 mod frontier;
@@ -8,6 +8,7 @@ mod noted;
 mod pairs;
 mod places;
 mod queue;
+mod walk;
 
 pub use frontier::{FAR, Frontier, State};
 pub use heap::{Entry, Heap};
@@ -16,3 +17,4 @@ pub use noted::Noted;
 pub use pairs::both;
 pub use places::{NO_PLACE, Places};
 pub use queue::{Queue, Waiting};
+pub use walk::{Left, Walk};

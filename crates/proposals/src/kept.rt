@@ -1,11 +1,10 @@
 //! What is kept of a walk: from an arc that a push filled to the root the way is as good as before, and a walk that comes upon
 //! it goes on along it.
 
-ghost use Rattle.std.specs.Prelude.{◌≡◌, ◌<◌};
+ghost use Rattle.std.specs.Prelude.{◌≡◌};
 
 use crate::search::Search;
-use crate::walk::Left;
-use containers::State;
+use containers::{Left, State};
 use relaxation::Proposal;
 
 impl Search {

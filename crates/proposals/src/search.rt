@@ -4,8 +4,7 @@ ghost use Rattle.std.specs.Prelude.{◌≡◌, ◌<◌, ◌≤◌, ◌^◌, ℕ,
 ghost use Rattle.relaxation.specs.Links.{LeadTo};
 
 use crate::record::NodeRecord;
-use crate::walk::Walk;
-use containers::{FAR, Frontier, NO_PLACE, Nodes, State, both};
+use containers::{FAR, Frontier, NO_PLACE, Nodes, State, Walk, both};
 use relaxation::{Proposal, seen};
 use residual_ends::Link;
 use std::alloc::{AllocError, Global};
@@ -60,6 +59,8 @@ pub struct Search {
     /// Whether sets of nodes are looked for that have more than can leave them, and whether one was found.
     pub(crate) looks_for_surplus: bool,
     pub(crate) has_surplus: bool,
+    /// The sides were too far away for pushes after a search.
+    pub(crate) is_far: bool,
 }
 
 impl Model for Search {
@@ -117,12 +118,24 @@ impl Search {
             pushes: 0,
             looks_for_surplus: false,
             has_surplus: false,
+            is_far: false,
         })
     }
 
     /// How many nodes the last search settled.
     pub fn width(&self) -> usize {
         self.frontier.settled().listed().len()
+    }
+
+    /// Over how many arcs the last search went to the node that it settled last.
+    pub fn levels(&self) -> u32 {
+        let Some(v) = self.frontier.settled().listed().last() else {
+            return 0;
+        };
+        match self.records.get(*v as usize) {
+            Some(record) => record.depth,
+            None => 0,
+        }
     }
 
     /// The number of entries of a table of nodes.

@@ -9,6 +9,7 @@ use crate::solving::solve;
 use crate::wanted::{FlowChange, Wanted};
 use containers::{Noted, both};
 use dimacs_text::ArcRow;
+use pseudoflow::Pseudoflow;
 use relaxation::{Proposal, Ring, Sets};
 use residual_ends::{Arc, ResidualEnds};
 use std::alloc::{AllocError, Global};
@@ -56,6 +57,8 @@ pub struct Proposals {
     ring: Ring,
     sets: Sets,
     search: Search,
+    /// What leads to a greatest flow: its room is not touched for a flow of least cost.
+    trees: Pseudoflow,
     between: Between,
     /// The arcs whose row or flow may be another than in the proposal.
     noted: Noted,
@@ -95,17 +98,18 @@ impl Proposals {
     {
         let proposal = Proposal::new(alloc, entries, arcs);
         let relaxing = both(Ring::new(alloc, entries), Sets::new(alloc, entries, arcs));
-        let search = Search::new(alloc, entries);
+        let searching = both(Search::new(alloc, entries), Pseudoflow::new(alloc, entries));
         let near = both(Between::new(alloc, entries), Noted::new(alloc, arcs));
-        let ((proposal, (ring, sets)), (search, (between, noted))) = both(
+        let ((proposal, (ring, sets)), ((search, trees), (between, noted))) = both(
             both(proposal, relaxing),
-            both(search, near),
+            both(searching, near),
         )?;
         Ok(Proposals {
             proposal,
             ring,
             sets,
             search,
+            trees,
             between,
             noted,
             standing: Standing::Fresh,
@@ -226,7 +230,14 @@ impl Proposals {
         };
         let _closed = self.proposal.ends.renew(0, &closed);
         let more = row.cap.saturating_sub(stands);
-        solve_from(&mut self.proposal, &mut self.search, source, sink, more);
+        solve_from(
+            &mut self.proposal,
+            &mut self.search,
+            &mut self.trees,
+            source,
+            sink,
+            more,
+        );
         let rest = self.proposal.rest(source);
         self.proposal.set_rest(source, 0);
         self.proposal.set_rest(sink, 0);
