@@ -9,7 +9,7 @@ from __future__ import annotations
 import re
 import unicodedata
 from dataclasses import dataclass, field
-from typing import Collection, Dict, List, Mapping, NamedTuple, Optional, Sequence, Tuple
+from typing import Collection, Dict, List, Mapping, NamedTuple, Optional, Sequence, Set, Tuple
 
 from .cells import Merged, TableFault, is_empty
 from .measures import Unit, unit_of
@@ -42,11 +42,12 @@ class Match(NamedTuple):
 @dataclass
 class Found:
     """Which columns of a sheet hold what. `names` are the columns that may have the names of the nodes, where more than
-    one may."""
+    one may. `is_plan` says that mcf-plan wrote the table."""
 
     places: Dict[str, int] = field(default_factory=dict)
     units: Dict[str, Unit] = field(default_factory=dict)
     names: List[int] = field(default_factory=list)
+    is_plan: bool = False
 
 
 def folded(text: str) -> str:
@@ -94,6 +95,9 @@ def find_columns(
     """
     found = Found()
     told = _told(sheet, kinds, chosen)
+    own = _own_columns(sheet, {*told.values(), *unused}) if "cost" in kinds else set()
+    found.is_plan = bool(own)
+    told.update(dict.fromkeys(own - told.keys(), "aside"))
     aside = [place for place, what in told.items() if what == "aside"]
     unknown: List[int] = []
     matches: Dict[str, List[Tuple[int, Match]]] = {}
@@ -120,11 +124,10 @@ def find_columns(
         )
     for what, its in matches.items():
         aside += _choose(sheet, what, its, found)
-    is_own = OWN <= set(map(folded, sheet.header))
     for place in unknown:
         if place == 0 and not sheet.header[0] and "node" in kinds and "node" not in matches:
             continue  # It may have the names of the nodes.
-        if is_own and folded(sheet.header[place]) in OWN or _is_left_aside(sheet, place, kinds, matches):
+        if _is_left_aside(sheet, place, kinds, matches):
             aside.append(place)
     compare_units({what: (unit, sheet, sheet.header[found.places[what]]) for what, unit in found.units.items()})
     if aside:
@@ -157,6 +160,30 @@ def _told(sheet: Sheet, kinds: Sequence[str], chosen: Mapping[str, Sequence[str]
                 raise TableFault(f"{sheet.name}: there is no column {name!r}; its columns are {sheet.its_columns()}")
             told.update(dict.fromkeys(places, what))
     return told
+
+
+def _own_columns(sheet: Sheet, said: Collection[str]) -> Set[int]:
+    """The places of the columns that mcf-plan added to a table of arcs, where it wrote a plan as one; none elsewhere.
+
+    Raises TableFault where the costs of units were taken out of such a table, and nothing is `said` of costs: what is
+    left as `cost` is what flows cost.
+    """
+    places = {folded(header): place for place, header in enumerate(sheet.header)}
+    for unit_cost, added in OWN:
+        if places.keys() >= {unit_cost, *added}:
+            own = {places[name] for name in (*added, "one more costs") if name in places}
+            # Where arcs have no names, the index of a frame counts them.
+            if "arc" in places and list(map(str, sheet.columns[places["arc"]])) == list(
+                map(str, range(len(sheet.lines)))
+            ):
+                own.add(places["arc"])
+            return own
+    if places.keys() >= {"flow", "cost", "is full"} and "cost" not in said:
+        raise TableFault(
+            f"{sheet.name}: the columns 'flow' and 'is full' are those of a plan, and 'cost' may be what a unit costs or "
+            "what the flow does; `--columns cost=cost` says that it is what a unit costs"
+        )
+    return set()
 
 
 def match_of(header: str, kinds: Sequence[str]) -> Optional[Match]:

@@ -207,7 +207,10 @@ class Table:
     def _reader(self) -> Numbers:
         """What reads the numbers of the table, by its decimal sign."""
         if self._numbers is None:
-            if self.reading.decimal is not None:
+            if self.found.is_plan and not any("," in cell for cell in self._texts(self._with_numbers())):
+                # mcf-plan writes decimal points, whatever the other table has.
+                self._numbers = Numbers(Sign("."))
+            elif self.reading.decimal is not None:
                 self._numbers = Numbers(Sign(self.reading.decimal))
             else:
                 self._numbers = Numbers(self._decimal_sign())
@@ -217,6 +220,10 @@ class Table:
         """Takes a decimal point for nothing usual where the other table of the problem shows a decimal comma."""
         if self._point_is_usual and self.reading.decimal is None and other._reader().sign.mark == ",":
             self._point_is_usual, self._numbers = False, None
+
+    def _with_numbers(self) -> List[str]:
+        """The columns that have amounts and costs."""
+        return [what for what in self.found.places if what not in ("node", "from", "to", "name", *PLACES)]
 
     def _texts(self, columns: Iterable[str]) -> Iterable[str]:
         """The different texts in some columns."""
@@ -230,7 +237,7 @@ class Table:
     def _decimal_sign(self) -> Sign:
         """The decimal sign of the table. Raises TableFault where nothing shows which it is."""
         sheet = self.sheet
-        columns = [what for what in self.found.places if what not in ("node", "from", "to", "name", *PLACES)]
+        columns = self._with_numbers()
         cells = self._texts(columns)
         try:
             return decimal_sign(cells, point_is_usual=self._point_is_usual)

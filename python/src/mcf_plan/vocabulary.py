@@ -151,8 +151,13 @@ COSTLY = frozenset(
 LIMITING = frozenset(("load bound ").split())
 """Words that are no name of a column, and speak of a capacity."""
 
-OWN = frozenset(("flow", "total cost", "is full", "one more costs"))
-"""Columns that tables of plans have, as `write_plan` writes them: left aside where all are there."""
+OWN = (
+    ("cost", ("flow", "total cost", "is full")),
+    ("unit cost", ("flow", "cost", "is full")),
+    ("unit cost", ("flow", "cost", "full")),
+)
+"""The tables of plans that `write_plan`, `Plan.to_frame` and `report.to_json` write: each by the column that has what a
+unit costs, and the columns that tell of the flow. Where all of one are there, these are left aside."""
 
 FIXED = frozenset("fixed fix setup fixkosten fixe fixes fixo fijo fija fijos".split())
 """Columns that speak of what is paid once, however much flows."""
