@@ -1,5 +1,6 @@
 """Problems: exact numbers, arcs by name, and the spellings of other programs."""
 
+import random
 import sys
 import time
 import unittest
@@ -7,7 +8,7 @@ from decimal import Decimal
 from fractions import Fraction
 
 from mcf_plan import Meaningless, Plan, Problem, Refused
-from mcf_plan.problem import capacity, exact, plain
+from mcf_plan.problem import SeveralArcs, capacity, exact, plain
 
 
 class Numbers(unittest.TestCase):
@@ -89,8 +90,8 @@ class Building(unittest.TestCase):
         problem.replace_arc(1, problem.arcs[1]._replace(name="road"))
         self.assertEqual((problem.find_arc("a to b"), problem.find_arc("road")), (0, 1))
 
-    def test_names_of_arcs_that_are_added_one_by_one(self):
-        """Each is listed once, and not all arcs anew: that would take 20 seconds here."""
+    def test_names_of_arcs_that_come_and_go_one_by_one(self):
+        """Each is listed, or taken off the list, alone, and not all arcs anew: that would take 20 seconds here."""
         problem = Problem()
         for number in range(50_000):
             problem.add_arc(f"town {number}", f"town {number + 1}")
@@ -98,7 +99,38 @@ class Building(unittest.TestCase):
         for number in range(300):
             problem.add_arc("town 1", "town 2", name=f"new {number}")
             self.assertEqual(problem.find_arc(f"new {number}"), 50_000 + number)
+            with self.assertRaises(SeveralArcs):
+                problem.find_arc("town 1 to town 2")
+        for number in reversed(range(300)):
+            problem.remove_last_arc()
+            with self.assertRaises(KeyError):
+                problem.find_arc(f"new {number}")
+        self.assertEqual(problem.find_arc("town 1 to town 2"), 1)
         self.assertLess(time.process_time() - begin, 5)
+
+    def test_drawn_arcs_that_come_and_go(self):
+        """Each is found as by looking through all arcs."""
+        generator = random.Random(7)
+        names = [None, "a", "b", "a to b", "b to a"]
+        problem = Problem()
+        for _ in range(3000):
+            if generator.random() < 0.45 and problem.arcs:
+                problem.remove_last_arc()
+            else:
+                problem.add_arc(*generator.choices("abc", k=2), name=generator.choice(names))
+            which = generator.choice([*names[1:], ("a", "b"), ("b", "c")])
+            found = [number for number, arc in enumerate(problem.arcs) if arc.name == which]
+            if not found:
+                found = [
+                    number
+                    for number, arc in enumerate(problem.arcs)
+                    if which in ((arc.tail, arc.head), f"{arc.tail} to {arc.head}")
+                ]
+            if len(found) == 1:
+                self.assertEqual(problem.find_arc(which), found[0])
+            else:
+                with self.assertRaises(SeveralArcs if found else KeyError):
+                    problem.find_arc(which)
 
     def test_mistakes(self):
         problem = Problem()

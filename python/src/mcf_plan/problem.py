@@ -8,7 +8,7 @@ from decimal import Context, Decimal, InvalidOperation
 from fractions import Fraction
 from functools import lru_cache
 from numbers import Real
-from typing import TYPE_CHECKING, Any, Callable, Dict, Iterable, List, NamedTuple, Optional, Tuple, Union
+from typing import TYPE_CHECKING, Any, Callable, Dict, Iterable, Iterator, List, NamedTuple, Optional, Tuple, Union
 
 from .dimacs import ProblemReader, read_with
 from .formats import ARC_FIELDS, Text
@@ -23,6 +23,9 @@ Number = Union[int, str, float, Decimal, Fraction]
 
 ArcKey = Union[int, str, Tuple[str, str]]
 """An arc by its number (from 0), its name or `TAIL to HEAD`, or its ends."""
+
+Listed = Union[int, List[int]]
+"""The number of the one arc that is called so, or the numbers of several."""
 
 WIDE = Context(prec=200)
 """Wide enough for every sum and product of numbers of tables: nothing is rounded."""
@@ -175,9 +178,9 @@ class Problem:
         self.sink = sink
         self.notes: List[str] = []
         self.places: Dict[str, Tuple[float, float]] = {}
-        # The arcs by their names, and by their ends as a pair and as `TAIL to HEAD`; -1: several.
-        self._by_name: Dict[str, int] = {}
-        self._by_ends: Dict[Union[str, Tuple[str, str]], int] = {}
+        # The arcs by their names, and by their ends as a pair and as `TAIL to HEAD`; several in their order.
+        self._by_name: Dict[str, Listed] = {}
+        self._by_ends: Dict[Union[str, Tuple[str, str]], Listed] = {}
         self._listed = 0  # so many arcs are in them
 
     def add_node(self, name: str, supply: Number = 0) -> None:
@@ -238,14 +241,14 @@ class Problem:
                 raise KeyError(f"there is no arc {number}: they are numbered from 0 to {len(self.arcs) - 1}")
             return number
         self._list_arcs()
-        number = self._by_name.get(which, -2) if isinstance(which, str) else -2  # A name goes before ends.
-        if number == -2:
-            number = self._by_ends.get(which, -2)
-        if number == -2:
+        found = self._by_name.get(which) if isinstance(which, str) else None  # A name goes before ends.
+        if found is None:
+            found = self._by_ends.get(which)
+        if found is None:
             raise KeyError(f"there is no arc {_called(which)}")
-        if number == -1:
+        if isinstance(found, list):
             raise SeveralArcs(f"there are several arcs {_called(which)}: say which by its number")
-        return number
+        return found
 
     def append_arc(self, arc: Arc) -> None:
         """Adds an arc as `make_arc` makes it, whose ends are there."""
@@ -260,20 +263,25 @@ class Problem:
 
     def remove_last_arc(self) -> None:
         """Takes the last arc away."""
-        self.arcs.pop()
+        arc = self.arcs.pop()
         if self._listed > len(self.arcs):
-            self._list_anew()
+            self._listed = len(self.arcs)
+            for listed, key in self._keys_of(arc):
+                _unlist(listed, key)
 
     def _list_arcs(self) -> None:
         """Lists the arcs that were added since they were listed."""
         for number in range(self._listed, len(self.arcs)):
-            arc = self.arcs[number]
-            keys: Tuple[Union[str, Tuple[str, str]], ...] = ((arc.tail, arc.head), f"{arc.tail} to {arc.head}")
-            for key in keys:
-                self._by_ends[key] = -1 if key in self._by_ends else number
-            if arc.name:
-                self._by_name[arc.name] = -1 if arc.name in self._by_name else number
+            for listed, key in self._keys_of(self.arcs[number]):
+                _list(listed, key, number)
         self._listed = len(self.arcs)
+
+    def _keys_of(self, arc: Arc) -> Iterator[Tuple[Dict[Any, Listed], Any]]:
+        """Where an arc is listed, and as what."""
+        yield self._by_ends, (arc.tail, arc.head)
+        yield self._by_ends, f"{arc.tail} to {arc.head}"
+        if arc.name:
+            yield self._by_name, arc.name
 
     def _list_anew(self) -> None:
         """Has all arcs listed once more where one is looked for."""
@@ -367,6 +375,26 @@ def _check_name(name: Any) -> None:
     """Raises TypeError where a name is no text: numbers and others as names would stop what is made of a plan."""
     if not isinstance(name, str):
         raise TypeError(f"a name is {name!r}, of type {type(name).__name__}, and has to be a text (str)")
+
+
+def _list(listed: Dict[Any, Listed], key: Any, number: int) -> None:
+    """Lists the number of an arc, which is greater than those that are listed."""
+    before = listed.setdefault(key, number)
+    if isinstance(before, list):
+        before.append(number)
+    elif before != number:
+        listed[key] = [before, number]
+
+
+def _unlist(listed: Dict[Any, Listed], key: Any) -> None:
+    """Takes the last arc that is listed as this away."""
+    before = listed[key]
+    if not isinstance(before, list):
+        del listed[key]
+    elif len(before) > 2:
+        before.pop()
+    else:
+        listed[key] = before[0]
 
 
 def _called(which: Union[str, Tuple[str, str]]) -> str:
