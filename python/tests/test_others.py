@@ -98,6 +98,10 @@ class Others(unittest.TestCase):
             "to 4), 1 less on arc 1 (1 to 2) saves 2",
             "3\n1\n2\n1\n3\n",
         )
+        self.refuse("line 2: there is an `s` line already", "s 13\n" + RIGHT)
+        self.refuse("line 8: there is a `v` line of node 1 already", RIGHT.replace("v 2", "v 1 9\nv 2"), "lemon")
+        starved = (TOP / "examples/starved/problem.min").read_text()
+        self.refuse("the cut of 1 node does not show a shortage of 2", "i 2\nk 1\n", problem=starved)
         parallel = "p min 2 2\nn 1 3\nn 2 -3\na 1 2 0 2 4\na 1 2 0 9 7\n"
         self.refuse("line 1: 2 arcs lead from 1 to 2: each needs its line", "f 1 2 3\n", problem=parallel)
         with self.assertRaises(ValueError):
@@ -116,6 +120,16 @@ class Others(unittest.TestCase):
         self.refuse(
             "the labels of the section with `flow` have to be 0 to 4", graph.replace("2\t3\t4\t4\n", ""), "lemon"
         )
+        self.refuse(
+            "line 9: the arc 4 leads from 3 to 2 here, and from 2 to 3 in the problem, where all are counted from 0",
+            graph.replace("2\t3\t4\t4\n", "3\t2\t4\t4\n"),
+            "lemon",
+        )
+        self.refuse(
+            "line 10: there is a row of label 4 already",
+            graph.replace("2\t3\t4\t4\n", "2\t3\t4\t3\n2\t3\t4\t4\n"),
+            "lemon",
+        )
         self.refuse("line 9: wrong number of fields", graph.replace("2\t3\t4\t4\n", "2\t3\t4\n"), "lemon")
 
     def test_raw_solutions(self) -> None:
@@ -133,6 +147,8 @@ class Others(unittest.TestCase):
             "GLPK's `-w` has an `s` line and 5 `j` lines: the text is cut off", raw.replace("j 5 b 4 0\n", ""), "glpk"
         )
         self.refuse("the answer says that its flow is worth 15, and it is worth 14", raw.replace("14", "15"), "glpk")
+        self.refuse("line 8: there is a `j` line of column 1 already", raw.replace("j 2", "j 1 u 7 -1\nj 2"), "glpk")
+        self.refuse("line 3: there is an `s` line already", raw.replace("i 1", "s bas 4 5 f f 14\ni 1"), "glpk")
         self.refuse("line 2: much is no number", raw.replace("14", "much"), "glpk")
         self.refuse("line 2: four is no whole number", raw.replace("4 5", "four 5"), "glpk")
         for dual in ("inf", "nan", "1e999999999"):

@@ -19,6 +19,8 @@ from typing import Dict, Iterator, List, NamedTuple, Optional, Tuple
 
 from .dimacs import Answer, DimacsProblem, parse_answer, parse_problem
 from .formats import RETURN_CAPACITY, Text
+from .plan import Disagreement, Infeasible
+from .problem import Problem
 
 PROGRAMS = ("lemon", "glpk", "flows")
 """Whose answers are read: see docs/OTHERS.md."""
@@ -70,8 +72,12 @@ def answer_from(problem_text: Text, answer_text: Text, program: str = "flows") -
         raise NotAnAnswer("the text is empty")
     if lines[0][1][0] == "i" and program != "glpk":
         try:
-            return parse_answer("\n".join(" ".join(words) for _, words in lines) + "\n").text()
-        except ValueError as error:
+            cut = parse_answer("\n".join(" ".join(words) for _, words in lines) + "\n")
+            Infeasible(
+                Problem.from_dimacs(problem_text), frozenset(map(str, cut.cut)), Decimal(cut.shortage or 0)
+            ).verify()
+            return cut.text()
+        except (ValueError, Disagreement) as error:
             raise NotAnAnswer(str(error)) from error
     if program == "glpk":
         told = told_by_glpk(problem, lines)
@@ -227,6 +233,14 @@ def whole(word: str, line: int) -> int:
     return int(value)
 
 
+def put(found: Dict[int, int], what: str, key: str, value: str, line: int) -> None:
+    """Adds the number of a line to those that were found. Raises NotAnAnswer where there is one already."""
+    number = whole(key, line)
+    if number in found:
+        raise NotAnAnswer(f"there is {what} {number} already", line)
+    found[number] = whole(value, line)
+
+
 def _number(word: str) -> Optional[Decimal]:
     """The number of a word; None where it is none, or has too many digits."""
     try:
@@ -244,11 +258,13 @@ def told_by_lines(problem: DimacsProblem, lines: List[Line]) -> Told:
     potentials: Dict[int, int] = {}
     for line, words in lines:
         if words[0] == "s" and len(words) == 2:
+            if worth is not None:
+                raise NotAnAnswer("there is an `s` line already", line)
             worth = str(whole(words[1], line))
         elif words[0] == "f" and len(words) == 4:
             flows.append((line, whole(words[1], line), whole(words[2], line), whole(words[3], line)))
         elif words[0] == "v" and len(words) == 3:
-            potentials[whole(words[1], line)] = whole(words[2], line)
+            put(potentials, "a `v` line of node", words[1], words[2], line)
         elif len(words) == 1:
             numbers.append(whole(words[0], line))
         else:
@@ -296,6 +312,8 @@ def told_by_glpk(problem: DimacsProblem, lines: List[Line]) -> Told:
     columns: Dict[int, int] = {}
     for line, words in lines:
         if words[0] == "s":
+            if worth is not None:
+                raise NotAnAnswer("there is an `s` line already", line)
             if len(words) < 6 or words[1] not in ("bas", "ipt", "mip"):
                 raise NotAnAnswer("this is no `s` line of GLPK's `-w`", line)
             states = words[4:-1]
@@ -311,12 +329,11 @@ def told_by_glpk(problem: DimacsProblem, lines: List[Line]) -> Told:
             if _number(worth) is None:
                 raise NotAnAnswer(f"{worth} is no number", line)
         elif words[0] in ("i", "j") and worth is not None and len(words) >= 3:
-            place = whole(words[1], line)
             primal = words[3] if kind == "bas" and len(words) == 5 else words[2]
             if words[0] == "j":
-                columns[place] = whole(primal, line)
+                put(columns, "a `j` line of column", words[1], primal, line)
             elif kind != "mip":
-                rows[place] = words[-1]
+                rows[whole(words[1], line)] = words[-1]
         elif words != ["e", "o", "f"]:
             raise NotAnAnswer(f"`{' '.join(words)}` is no line of GLPK's `-w`", line)
     if worth is None or sorted(columns) != list(range(1, len(problem.arcs) + 1)):
@@ -357,6 +374,15 @@ def told_by_graph(problem: DimacsProblem, lines: List[Line]) -> Told:
     flows = column(heads, rows, "flow", len(problem.arcs), ends=2)
     if flows is None:
         raise NotAnAnswer("the section @arcs has no column `flow`")
+    label = 2 + heads.index("label")
+    for line, words in rows:
+        tail, head = problem.arcs[whole(words[label], line)][:2]
+        if [whole(word, line) + 1 for word in words[:2]] != [tail, head]:
+            raise NotAnAnswer(
+                f"the arc {words[label]} leads from {words[0]} to {words[1]} here, and from {tail - 1} to {head - 1} in the "
+                "problem, where all are counted from 0",
+                line,
+            )
     heads, rows = tables.get("@nodes", ([], []))
     return Told(flows, None, column(heads, rows, "potential", problem.nodes, ends=0))
 
@@ -372,7 +398,7 @@ def column(heads: List[str], rows: List[Line], name: str, count: int, *, ends: i
     for line, words in rows:
         if len(words) != ends + len(heads):
             raise NotAnAnswer("wrong number of fields", line)
-        found[whole(words[label], line)] = whole(words[place], line)
+        put(found, "a row of label", words[label], words[place], line)
     if sorted(found) != list(range(count)):
         raise NotAnAnswer(f"the labels of the section with `{name}` have to be 0 to {count - 1}")
     return [found[number] for number in range(count)]

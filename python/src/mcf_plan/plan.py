@@ -10,6 +10,7 @@ from dataclasses import dataclass, field
 from decimal import Decimal
 from typing import TYPE_CHECKING, Any, Dict, FrozenSet, Iterator, List, NamedTuple, Optional
 
+from .formats import counted
 from .problem import WIDE, ZERO, plain, total_of
 from .units import Scale
 
@@ -260,7 +261,9 @@ class Infeasible:
         """Raises Disagreement unless the cut has this shortage, above 0, in the units of the tables."""
         crossing = self.crossing()
         if self.shortage <= 0 or self.shortage not in (crossing.too_much, crossing.too_little):
-            raise Disagreement(f"the cut of {len(self.cut)} nodes does not show a shortage of {plain(self.shortage)}")
+            raise Disagreement(
+                f"the cut of {counted(len(self.cut), 'node')} does not show a shortage of {plain(self.shortage)}"
+            )
 
     def _repr_html_(self) -> str:
         from .notebook import infeasible_html
