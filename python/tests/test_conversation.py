@@ -150,6 +150,8 @@ class Words(unittest.TestCase):
             ("cap #3 1", "there is no arc #3 among 2 arcs"),
             ("supply a", "supply wants a node and a number; `help` tells more"),
             ("supply a b 1", "one name was expected, and 2 are there; names with blanks stand in quotes"),
+            ("add a b cost 3 cost 5", "cost stands there twice, or under two names"),
+            ("add a b cap 3 capacity 5", "capacity stands there twice, or under two names"),
             ("add a", "add wants both ends, and then pairs as `capacity 5 cost 2`; `help` tells more"),
             ("mark", "mark wants a name; `help` tells more"),
             ("mark my plan", "one name was expected, and 2 are there; names with blanks stand in quotes"),

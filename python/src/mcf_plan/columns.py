@@ -306,7 +306,7 @@ def _why_it_matters(name: str, header: str, different: int, kinds: Tuple[Sequenc
         return "what enters an arc leaves it whole, nothing is lost or gained on the way"
     if "cost" in of_table and tokens & FIXED:
         return "what is paid once, however much flows, can't be said: a cost is that of a unit"
-    if tokens & SWITCHES:
+    if tokens & SWITCHES and not _telling(name, open_kinds):
         return "each row counts; give the table without those that do not"
     if tokens & PARTS:
         return "all rows are one problem; give those of one plan alone" if different > 1 else ""

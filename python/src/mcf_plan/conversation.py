@@ -275,6 +275,8 @@ class Conversation:
         for what, value in zip(words[2::2], words[3::2]):
             if what not in known:
                 raise EditRefused(f"{what} is none of capacity, cost, low and name")
+            if known[what] in given:
+                raise EditRefused(f"{what} stands there twice, or under two names")
             given[known[what]] = value if what == "name" else number(value)
         self.session.add_arc(
             words[0],

@@ -132,9 +132,11 @@ def _find_names(table: Table, ends: Iterable[str]) -> None:
         used = [place for place in found.names if wanted <= set(table.names_of(place))]
         if len(used) != 1:
             names = " and ".join(repr(sheet.header[place]) for place in found.names)
+            is_one = len({folded(sheet.header[place]) for place in found.names}) == 1
+            choice = "give the table with one of them alone" if is_one else "say `--columns node=NAME`"
             raise TableFault(
                 f"{sheet.name}: the columns {names} both look like {called('node')}, and the arcs do not show which "
-                "counts; say `--columns node=NAME`"
+                f"counts; {choice}"
             )
         found.places["node"] = used[0]
         rest = [repr(sheet.header[place]) for place in found.names if place != used[0]]
@@ -246,8 +248,14 @@ def _tell_unplaced(problem: Problem, nodes: Sheet) -> None:
 
 
 def _alike(name: str) -> str:
-    """A name without what is hard to see: letters' size, and what parts its words."""
-    return re.sub(r"[\W_]+", " ", unicodedata.normalize("NFKC", name).casefold()).strip() or name
+    """A name without what is hard to see, or what programs take off numbers: letters' size, what parts its words, zeros
+    before a number, and `.0` behind it.
+
+    >>> _alike("Lager_01") == _alike("lager 1"), _alike("01067.0") == _alike("1067"), _alike("A 10") == _alike("A 1")
+    (True, True, False)
+    """
+    text = re.sub(r"(?<![\d.])0+(?=\d)", "", unicodedata.normalize("NFKC", name).casefold())
+    return re.sub(r"[\W_]+", " ", re.sub(r"^(\d+)\.0+$", r"\1", text)).strip() or name
 
 
 def _read_arcs(problem: Problem, table: Table, tails: Sequence[str], heads: Sequence[str]) -> None:

@@ -110,10 +110,11 @@ TWO_WAYS = frozenset(
 
 SWITCHES = frozenset(
     (
-        "active inactive open closed enabled disabled blocked usable status "
-        "aktiv inaktiv offen gesperrt geschlossen gultig "
-        "actif ouvert ferme statut "
-        "activo abierto cerrado estado "
+        "active inactive open closed enabled disabled blocked usable status valid allowed permitted forbidden excluded "
+        "exclude "
+        "aktiv inaktiv offen gesperrt sperre geschlossen gultig erlaubt zulassig verboten "
+        "actif ouvert ferme statut valide autorise interdit "
+        "activo abierto cerrado estado valido permitido prohibido "
     ).split()
 )
 """Columns that speak of whether a row counts."""
@@ -165,7 +166,12 @@ FIXED = frozenset("fixed fix setup fixkosten fixe fixes fixo fijo fija fijos".sp
 DITTO = frozenset(('"', "''", "\u2033", "\u3003", "\u201c", "\u201d", "dito", "ditto", "idem"))
 """What stands in a cell for the name above it."""
 
-SUMS = frozenset("total totals sum sums summe gesamt insgesamt somme total suma".split())
+SUMS = frozenset(
+    (
+        "total;totals;sum;sums;grand total;subtotal;sub total;summe;gesamt;insgesamt;gesamtsumme;zwischensumme;ergebnis;"
+        "gesamtergebnis;teilergebnis;somme;sous total;total general;suma;suma total"
+    ).split(";")
+)
 """Names of rows that hold sums of the others."""
 
 DEMANDING = frozenset(
