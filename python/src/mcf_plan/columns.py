@@ -11,10 +11,11 @@ import unicodedata
 from dataclasses import dataclass, field
 from typing import Collection, Dict, List, Mapping, NamedTuple, Optional, Sequence, Set, Tuple
 
-from .cells import Merged, TableFault, is_empty
-from .measures import Unit, unit_of
+from .cells import NO_LIMIT, Merged, TableFault, is_empty
+from .measures import Unit, is_amount, unit_of
 from .sheets import Sheet
 from .vocabulary import (
+    AMOUNTS,
     COLUMNS,
     COSTLY,
     ENDS,
@@ -279,6 +280,8 @@ def _is_left_aside(sheet: Sheet, place: int, kinds: Sequence[str], taken: Collec
     # Where the ends of an arc and the name of a node are known, other columns may have words like theirs.
     open_kinds = [what for what in kinds if what not in LABELS and not (what in taken and what in ENDS)]
     why = _why_it_matters(name, header, len(cells), (kinds, open_kinds))
+    if not why and "capacity" in kinds and "capacity" not in taken and _may_be_capacity(name, header, cells):
+        why = f"it may be the capacity, which no other column is; `--columns capacity={quoted(header)}` says so"
     if why:
         raise TableFault(
             f"{sheet.name}: the column {header!r} is not understood: {why}; `--columns aside={quoted(header)}` leaves "
@@ -331,13 +334,23 @@ def _of_other_table(tokens: Collection[str], kinds: Sequence[str]) -> str:
 
 def _telling(name: str, kinds: Sequence[str]) -> Optional[str]:
     """The thing that a name of several words, or a long word, may be, by a known word in it."""
-    joined = name.replace(" ", "")
     for word, things in _TELLING.items():
-        if word in name.split() or len(word) >= 6 and word in joined:
+        if _has_word(name, word, 6):
             for what in things:
                 if what in kinds:
                     return what
     return None
+
+
+def _has_word(name: str, word: str, least: int) -> bool:
+    """Whether a word is one of a name's words, or a part of one where it has so many letters at least."""
+    return word in name.split() or len(word) >= least and word in name.replace(" ", "")
+
+
+def _may_be_capacity(name: str, header: str, cells: Collection[str]) -> bool:
+    """Whether a column has numbers, and a word of amounts or their unit over them."""
+    are_numbers = all(re.match(r"\s*[+-]?[.,]?\d", cell) or cell.strip().lower() in NO_LIMIT for cell in cells)
+    return bool(cells) and are_numbers and (is_amount(header) or any(_has_word(name, word, 5) for word in AMOUNTS))
 
 
 def _near(name: str, header: str, kinds: Sequence[str]) -> Optional[Tuple[str, str]]:

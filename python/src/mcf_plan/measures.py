@@ -120,3 +120,13 @@ def unit_of(text: str) -> Optional[Unit]:
         return None
     text = re.sub(r"^(in|en)\s+", "", text.strip(" _-.:"), flags=re.IGNORECASE)
     return Unit(text, scale + base, frozenset(per), time)
+
+
+def is_amount(text: str) -> bool:
+    """Whether a text is the unit of an amount, as a name of a column alone.
+
+    >>> is_amount("tonnes/week"), is_amount("EUR"), is_amount("km")
+    (True, False, False)
+    """
+    unit = unit_of(text)
+    return unit is not None and unit.base in _SAME

@@ -152,6 +152,16 @@ COSTLY = frozenset(
 LIMITING = frozenset(("load bound ").split())
 """Words that are no name of a column, and speak of a capacity."""
 
+AMOUNTS = frozenset(
+    (
+        "quantity quantities qty volume volumes throughput bandwidth tonnage payload remaining "
+        "menge volumen durchsatz ladung begrenzung restriktion beschrankung kontingent "
+        "quantite debit contrainte "
+        "cantidad caudal restriccion "
+    ).split()
+)
+"""Words of a column that may be the capacity where no other column is."""
+
 OWN = (
     ("cost", ("flow", "total cost", "is full")),
     ("unit cost", ("flow", "cost", "is full")),
