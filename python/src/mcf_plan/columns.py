@@ -240,7 +240,8 @@ def _choose(sheet: Sheet, what: str, its: List[Tuple[int, Match]], found: Found)
     if match.unit is not None:
         found.units[what] = match.unit
         sheet.notes.append(f"{sheet.name}: the column {header!r} is {called(what)}, {match.unit.told}")
-    elif match.stands_in:
+    elif match.stands_in or folded(header) == "min" and "max" not in map(folded, sheet.header):
+        # By itself `min` may be minutes.
         sheet.notes.append(f"{sheet.name}: the column {header!r} is taken as {called(what)}")
     return [other for other, _ in its if other != place]
 

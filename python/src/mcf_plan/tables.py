@@ -180,9 +180,12 @@ def _read_nodes(problem: Problem, table: Table, ends: Collection[str]) -> None:
             raise table.fault(row, "node", ROW_OF_SUMS)
     supplies, demands = table.numbers("supply"), table.numbers("demand")
     if table.has("supply") and table.has("demand"):
-        for row, demand in enumerate(demands):
+        for row, (supply, demand) in enumerate(zip(supplies, demands)):
             if demand < 0:
                 raise table.fault(row, "demand", "beside a column of supplies a demand is 0 or more")
+            if supply < 0 < demand:
+                expected = f"the supply is {plain(supply)}, which is a demand too: say it once, in either column"
+                raise table.fault(row, "demand", expected)
     elif problem.kind == "min" and all(supply >= 0 for supply in supplies):
         _check_signs(table, supplies)
     for name, supply, demand in zip(names, supplies, demands):
