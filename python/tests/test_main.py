@@ -353,6 +353,11 @@ class Command(unittest.TestCase):
         self.assertIn("say at which node the supply changes the other way, by `--beside NODE`", errors)
         _, errors = self.run_it("ranges", self.nodes, self.arcs, "--supplies", "--beside", "Rom", status=3)
         self.assertIn("there is no node Rom", errors)
+        _, errors = self.run_it("ranges", self.nodes, self.arcs, "--beside", "Kiel", status=3)
+        self.assertIn("--beside belongs to --supplies", errors)
+        words = ("--supplies", "--beside", "Kiel", "--only", "road")
+        _, errors = self.run_it("ranges", self.nodes, self.arcs, *words, status=3)
+        self.assertIn("--only names arcs, and --supplies tells of nodes", errors)
 
     def test_ranges_of_other_kinds(self):
         pairs = self.file("pairs.csv", "from,to,cost\nAnn,early,3\nAnn,late,5\nBob,early,2\nBob,late,9\n")
@@ -468,6 +473,7 @@ class Command(unittest.TestCase):
             (("--cap", "nowhere", "--values", "1"), 3),
             (("--cap", "road", "--cost", "road", "--values", "1"), 2),
             (("--supply", "Rom", "--values", "1"), 3),
+            (("--cap", "road", "--beside", "Kiel", "--values", "1"), 3),
             (("--supply", "Kiel", "--beside", "Kiel", "--values", "6"), 3),
             (("--cap", "road", "--values", "1", "--table", "sweep.txt"), 3),
         ):

@@ -105,6 +105,10 @@ def add_ranges(parser: argparse.ArgumentParser) -> None:
 
 def run_ranges(options: argparse.Namespace, problem: Problem) -> bool:
     """Runs `ranges`; whether there is a plan."""
+    if options.supplies and options.only is not None:
+        raise ValueError("--only names arcs, and --supplies tells of nodes: say one of them")
+    if options.beside is not None and not options.supplies:
+        raise ValueError("--beside belongs to --supplies")
     only = None if options.only is None else [arc_of(problem, words) for words in options.only]
     beside = None if options.beside is None else node_of(problem, options.beside)
     with Session(problem, surplus=options.surplus) as session, Progress() as progress:
@@ -306,6 +310,8 @@ def asked_number(options: argparse.Namespace, problem: Problem) -> Tuple[What, s
         if options.beside is not None:
             what = ("supply", node, node_of(problem, options.beside))
         return what, f"supply of {node}", problem.nodes[node]
+    if options.beside is not None:
+        raise ValueError("--beside belongs to --supply")
     name = next(name for name in OF_ARC if getattr(options, name) is not None)
     number = arc_of(problem, getattr(options, name))
     arc = problem.arcs[number]
