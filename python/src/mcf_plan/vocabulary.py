@@ -131,11 +131,12 @@ LOSSES = frozenset(
 
 PARTS = frozenset(
     (
-        "unit units currency product products commodity commodities good goods item items material article sku "
-        "period periods day days week weeks month date year scenario "
-        "einheit einheiten wahrung produkt ware material artikel tag woche monat datum jahr periode szenario "
-        "unite devise produit article jour semaine mois periode scenario "
-        "unidad moneda producto articulo dia semana mes fecha ano periodo escenario "
+        "unit units uom currency ccy product products commodity commodities good goods item items material article sku "
+        "grade quality period periods day days week weeks month quarter date year scenario variant version case "
+        "einheit einheiten mengeneinheit me wahrung wahrg whrg produkt ware material artikel sorte qualitat tag woche kw "
+        "monat quartal datum jahr periode szenario variante "
+        "unite devise produit article qualite jour semaine mois trimestre periode scenario variante "
+        "unidad moneda producto articulo calidad dia semana mes trimestre fecha ano periodo escenario variante "
     ).split()
 )
 """Columns that part a table in several problems, where more than one thing stands in them."""
