@@ -317,7 +317,7 @@ class Command(unittest.TestCase):
         self.assertEqual(re.findall(r"^Kiel +(\w+)", out, re.M), ["Bonn", "Ulm", "Ulm"])
         for wrong, words in (
             ("#99", "there is no arc #99 among "),
-            ("Kiel Ulm", "several arcs"),
+            ("Kiel Ulm", "there are several arcs Kiel to Ulm: say which by its number: they are #"),
             ("'", "a quotation mark or a backslash stands alone in '"),
         ):
             _, errors = self.run_it("ranges", self.nodes, self.arcs, "--only", wrong, status=3)

@@ -9,13 +9,12 @@ from contextlib import ExitStack, suppress
 from decimal import Decimal
 from typing import Callable, Dict, List, Optional, Sequence, TextIO
 
-from .explain import MOST_TOLD
 from .outputs import write_text
 from .plan import Infeasible
 from .printing import of_system, print_table, say, tell
-from .problem import ArcKey, plain, total_of
+from .problem import ArcKey, SeveralArcs, plain, total_of
 from .program import TimeLimit
-from .questions import arc_of
+from .questions import named_arc, which
 from .rewrite import CannotRewrite
 from .session import EditRefused, Session
 from .tables import check_kept, write_plan
@@ -174,6 +173,8 @@ class Conversation:
                 self.do("help" if words[0] == "?" else words[0].lower(), words[1:])
         except (EditRefused, CannotRewrite, ValueError) as error:
             self.refuse(error, str(error))
+        except SeveralArcs as error:
+            self.refuse(error, which(error))
         except KeyError as error:
             self.refuse(error, str(error.args[0]) + self.meant(words[1:]))
         except TimeLimit as error:
@@ -190,14 +191,8 @@ class Conversation:
         return self.say(f"refused: {reason}; the whole group is refused, and its lines up to `end` are passed over")
 
     def meant(self, words: List[str]) -> str:
-        """What may have been meant by words that name nothing, or several arcs, in words."""
+        """What may have been meant by words that name nothing, in words."""
         problem = self.session.problem
-        ends = tuple(word for word in words[:3] if word != "to")[:2]
-        several = [
-            k for k, arc in enumerate(problem.arcs, 1) if (arc.tail, arc.head) == ends or words[:1] == [arc.name]
-        ]
-        if len(several) > 1:
-            return ": they are " + ", ".join(f"#{k}" for k in several[:MOST_TOLD]) + ", .." * (len(several) > MOST_TOLD)
         known = {*problem.nodes, *(arc.name for arc in problem.arcs if arc.name)}
         spelled = {name.lower(): name for name in known} if len(known) <= MOST_ALIKE else {}
         for word in words:
@@ -259,10 +254,7 @@ class Conversation:
             raise EditRefused(
                 "an arc is its name, its two ends, or # and its number; names with blanks stand in quotes"
             )
-        try:
-            return arc_of(self.session.problem, words[0])
-        except ValueError as error:
-            raise KeyError(str(error)) from None
+        return named_arc(self.session.problem, words[0])
 
     def add(self, words: List[str]) -> None:
         """Adds an arc."""

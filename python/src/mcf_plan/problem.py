@@ -148,7 +148,11 @@ def total_of(numbers: Iterable[Decimal]) -> Decimal:
 
 
 class SeveralArcs(KeyError):
-    """More than one arc is called so."""
+    """More than one arc is called so: those with these `numbers`, from 0."""
+
+    def __init__(self, name: str, numbers: List[int]):
+        super().__init__(f"there are several arcs {name}: say which by its number")
+        self.numbers = numbers
 
 
 class Problem:
@@ -247,7 +251,7 @@ class Problem:
         if found is None:
             raise KeyError(f"there is no arc {_called(which)}")
         if isinstance(found, list):
-            raise SeveralArcs(f"there are several arcs {_called(which)}: say which by its number")
+            raise SeveralArcs(_called(which), list(found))
         return found
 
     def append_arc(self, arc: Arc) -> None:

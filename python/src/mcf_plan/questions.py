@@ -13,6 +13,7 @@ from pathlib import Path
 from typing import Any, Dict, List, Optional, Tuple
 
 from .deadline import lift_alarm
+from .explain import MOST_TOLD
 from .formats import counted
 from .outputs import write_text
 from .plan import Infeasible, Plan
@@ -29,14 +30,31 @@ OF_ARC = {"cap": "capacity", "low": "lower bound", "cost": "cost"}
 
 
 def arc_of(problem: Problem, words: str) -> int:
+    """The number of the arc that words name, as `named_arc` has it. Raises ValueError where there is none, or more than
+    one."""
+    try:
+        return named_arc(problem, words)
+    except SeveralArcs as several:
+        raise ValueError(which(several)) from None
+    except KeyError as error:
+        raise ValueError(error.args[0]) from None
+
+
+def which(several: SeveralArcs) -> str:
+    """What to say of several arcs that are called alike: the numbers of the first."""
+    told = [f"#{number + 1}" for number in several.numbers[:MOST_TOLD]]
+    return f"{several.args[0]}: they are {', '.join(told)}" + ", .." * (len(several.numbers) > MOST_TOLD)
+
+
+def named_arc(problem: Problem, words: str) -> int:
     """The number of the arc that words name: its name, `TAIL to HEAD`, its two ends, or #K for the K-th.
 
-    Raises ValueError where there is none, or more than one.
+    Raises KeyError where there is none, and SeveralArcs, which is one too, where there are more.
 
     >>> problem = Problem()
     >>> problem.add_arc("Bad Aibling", "Ulm", name="B 10")
     0
-    >>> [arc_of(problem, words) for words in ("B 10", "Bad Aibling to Ulm", "'Bad Aibling' Ulm", "#1")]
+    >>> [named_arc(problem, words) for words in ("B 10", "Bad Aibling to Ulm", "'Bad Aibling' Ulm", "#1")]
     [0, 0, 0, 0]
     """
     words = unicodedata.normalize("NFC", words)  # as the names of tables
@@ -60,9 +78,11 @@ def arc_of(problem: Problem, words: str) -> int:
             if len(parts) == 1:
                 return problem.find_arc(parts[0])
             raise
+    except SeveralArcs:
+        raise
     except KeyError as error:
         quoted = "" if len(parts) < 3 else "; names with blanks stand in quotes, as in '\"Bad Aibling\" Ulm'"
-        raise ValueError(f"{error.args[0]}{quoted}") from None
+        raise KeyError(f"{error.args[0]}{quoted}") from None
 
 
 def _parts_of(words: str) -> List[str]:
