@@ -34,6 +34,12 @@ const STUCK: &[u8] = b"p min 3 2\nn 1 3\nn 3 -3\na 1 2 0 2 1\na 2 3 0 1 1\n";
 const PAIRS: &[u8] = b"p asn 4 4\nn 1\nn 2\na 1 3 5\na 1 4 2\na 2 3 4\na 2 4 3\n";
 /// The one greatest flow fills the arcs out of the source.
 const GREATEST: &[u8] = b"p max 4 5\nn 1 s\nn 4 t\na 1 2 3\na 1 3 2\na 2 3 1\na 2 4 2\na 3 4 3\n";
+/// A way of 26 arcs, of which the first has room for 5 and one in the middle for 3: what does not pass there goes home.
+const LONG: &[u8] =
+    b"p max 27 26\nn 1 s\nn 27 t\na 1 2 5\na 2 3 9\na 3 4 9\na 4 5 9\na 5 6 9\na 6 7 9\na 7 8 9\n\
+a 8 9 9\na 9 10 9\na 10 11 9\na 11 12 9\na 12 13 9\na 13 14 9\na 14 15 3\na 15 16 9\n\
+a 16 17 9\na 17 18 9\na 18 19 9\na 19 20 9\na 20 21 9\na 21 22 9\na 22 23 9\na 23 24 9\n\
+a 24 25 9\na 25 26 9\na 26 27 9\n";
 
 /// What is proposed: arcs with the flow that is wanted of each, and potentials that are likely to certify it.
 type Proposed = (&'static [(u32, i64)], &'static [i64]);
@@ -171,7 +177,7 @@ static LEFT: [(&[u8], &[i64], Proposed, Outcome); 2] = [
 
 /// Problems, the excesses with which they begin, and what comes of the solver's own proposal: all of it is adopted, and
 /// no push is left to the searches.
-static OWN: [(&[u8], &[i64], Outcome); 5] = [
+static OWN: [(&[u8], &[i64], Outcome); 6] = [
     (
         GAINS,
         &[0, 1, -1, 4, -4],
@@ -198,6 +204,47 @@ static OWN: [(&[u8], &[i64], Outcome); 5] = [
         STUCK,
         &[0, 3, 0, -3],
         (Some(1), 0, &[1, 1], &[0, 2, 0, -2], None),
+    ),
+    (
+        LONG,
+        &[
+            0, 5, 0, 0, 0, 0, 0, 0, 0, 0, 0, 0, 0, 0, 0, 0, 0, 0, 0, 0, 0, 0, 0, 0, 0, 0, 0, -5,
+        ],
+        (
+            Some(5),
+            0,
+            &[
+                99_999_999_999_998,
+                3,
+                3,
+                3,
+                3,
+                3,
+                3,
+                3,
+                3,
+                3,
+                3,
+                3,
+                3,
+                3,
+                3,
+                3,
+                3,
+                3,
+                3,
+                3,
+                3,
+                3,
+                3,
+                3,
+                3,
+                3,
+                3,
+            ],
+            &[0; 28],
+            Some(3),
+        ),
     ),
 ];
 
