@@ -308,6 +308,9 @@ class Command(unittest.TestCase):
         folder = TOP / "examples/starved"
         out, _ = self.run_it("explain", str(folder / "problem.min"), "--answer", str(folder / "cut.sol"), status=1)
         self.assertIn("at most 3 can leave", out)
+        wrong = self.file("wrong.sol", (folder / "cut.sol").read_text().replace("i ", "i 1", 1))
+        _, errors = self.run_it("explain", str(folder / "problem.min"), "--answer", wrong, status=3)
+        self.assertIn("wrong.sol is no right answer to the problem: mcf check says of the answer: not valid", errors)
 
     def test_ranges(self):
         out, _ = self.run_it("ranges", self.nodes, self.arcs)

@@ -72,6 +72,16 @@ class ScipyLike(unittest.TestCase):
             self.assertEqual(flow.sum(axis=1)[1:-1].tolist(), [0] * (nodes - 2))
             self.assertEqual(flow[0].sum(), found.flow_value)
 
+    def test_computed_costs(self) -> None:
+        import numpy as np
+        from scipy.optimize import linear_sum_assignment as theirs
+
+        matrix = np.random.default_rng(3).random((20, 30))
+        with self.assertRaisesRegex(BeyondLimits, "`decimals=12`, rounds all numbers to it"):
+            linear_sum_assignment(matrix)
+        rows, columns = linear_sum_assignment(matrix, decimals=12)
+        self.assertEqual([rows.tolist(), columns.tolist()], [part.tolist() for part in theirs(matrix)])
+
     def test_refused(self) -> None:
         import numpy as np
 

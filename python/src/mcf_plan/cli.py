@@ -506,7 +506,11 @@ def _explain(options: argparse.Namespace) -> int:
     if options.answer:
         rewriting = rewrite(problem, Options(options.surplus))
         answer = sys.stdin.buffer.read() if options.answer == "-" else Path(options.answer).read_bytes()
-        result = rewriting.checked(as_str(answer), Program())
+        try:
+            result = rewriting.checked(as_str(answer), Program())
+        except Disagreement as wrong:
+            # Not the program's own answer: nothing is to be reported.
+            raise ValueError(f"{options.answer} is no right answer to the problem: {wrong}") from None
     else:
         result = solve(problem, Options(options.surplus))
     if isinstance(result, Plan):

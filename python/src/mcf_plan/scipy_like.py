@@ -18,6 +18,7 @@ from typing import Any, List, Optional, Tuple
 from .plan import Infeasible, Plan
 from .problem import Problem
 from .program import Program
+from .rounding import round_problem
 
 METHODS = ("dinic", "edmonds_karp")
 """scipy's methods of `maximum_flow`. Which of them is asked for makes no difference here."""
@@ -27,15 +28,21 @@ SCIPYS_OWN = getattr(sys.modules.get("scipy.sparse.csgraph"), "maximum_flow", No
 
 
 def linear_sum_assignment(
-    cost_matrix: Any, maximize: bool = False, *, program: Optional[Program] = None, time_limit: Optional[float] = None
+    cost_matrix: Any,
+    maximize: bool = False,
+    *,
+    program: Optional[Program] = None,
+    time_limit: Optional[float] = None,
+    decimals: Optional[int] = None,
 ) -> Tuple[Any, Any]:
     """Rows and columns of an assignment of least cost (of most, with `maximize`), each row at most once and each
     column.
 
     `cost_matrix` is a matrix of any shape; each row, or where there are fewer columns each column, is assigned. An
-    entry that is infinite is no pair. Returns two arrays of whole numbers, the first rising. Raises ValueError where
-    there is no assignment or an entry is nan or -inf, BeyondLimits where the matrix is too large or too fine for the
-    formats, and TimeLimit after `time_limit` seconds.
+    entry that is infinite is no pair. Computed floats may have more decimals than there is room for: `decimals` rounds
+    all costs to so many. Returns two arrays of whole numbers, the first rising. Raises ValueError where there is no
+    assignment or an entry is nan or -inf, BeyondLimits where the matrix is too large or too fine for the formats, and
+    TimeLimit after `time_limit` seconds.
     """
     import numpy as np
 
@@ -54,7 +61,7 @@ def linear_sum_assignment(
     if 0 in matrix.shape:
         return np.array([], dtype=np.intp), np.array([], dtype=np.intp)
     is_turned = matrix.shape[0] > matrix.shape[1]
-    rows, columns = assigned(matrix.T if is_turned else matrix, maximize, program, time_limit)
+    rows, columns = assigned(matrix.T if is_turned else matrix, maximize, program, time_limit, decimals)
     if not is_turned:
         return np.array(rows, dtype=np.intp), np.array(columns, dtype=np.intp)
     order = np.argsort(columns)
@@ -62,7 +69,11 @@ def linear_sum_assignment(
 
 
 def assigned(
-    matrix: Any, maximize: bool, program: Optional[Program], time_limit: Optional[float]
+    matrix: Any,
+    maximize: bool,
+    program: Optional[Program],
+    time_limit: Optional[float],
+    decimals: Optional[int] = None,
 ) -> Tuple[List[int], List[int]]:
     """The rows, each of them, and their columns, of which there are as many or more."""
     problem = Problem("min")
@@ -78,6 +89,8 @@ def assigned(
             if abs(cost) != float("inf"):
                 problem.add_arc(f"row {row}", f"column {column}", cap=1, cost=-cost if maximize else cost)
                 pairs.append((row, column))
+    if decimals is not None:
+        problem = round_problem(problem, decimals)
     plan = problem.solve(program, surplus="keep" if width > height else "refuse", time_limit=time_limit)
     if isinstance(plan, Infeasible):
         raise ValueError("cost matrix is infeasible")
