@@ -472,6 +472,7 @@ class Command(unittest.TestCase):
             (("--cap", "road"), 3),
             (("--cap", "road", "--from", "0", "--to", "3", "--step", "0"), 3),
             (("--cap", "road", "--values", "1", "--to", "3"), 3),
+            (("--cap", "road", "--values", "1", "--step", "2"), 3),
             (("--cap", "road", "--values", "much"), 2),
             (("--cap", "nowhere", "--values", "1"), 3),
             (("--cap", "road", "--cost", "road", "--values", "1"), 2),

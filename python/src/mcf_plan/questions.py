@@ -259,7 +259,7 @@ def add_sweep(parser: argparse.ArgumentParser) -> None:
     )
     parser.add_argument("--from", dest="first", metavar="VALUE", type=_value, help="the first value")
     parser.add_argument("--to", dest="last", metavar="VALUE", type=_value, help="the last value")
-    parser.add_argument("--step", metavar="VALUE", type=_value, default=Decimal(1), help="from value to value (1)")
+    parser.add_argument("--step", metavar="VALUE", type=_value, help="from value to value (1)")
     parser.add_argument("--values", metavar="V,V,..", type=_values, help="these values in place of a row")
     parser.add_argument("--chart", metavar="FILE", type=_chart, help="write a chart (.svg)")
     parser.add_argument(
@@ -316,10 +316,12 @@ def asked_values(options: argparse.Namespace) -> List[Decimal]:
     if options.values is not None:
         if options.first is not None or options.last is not None:
             raise ValueError("say --values, or --from and --to")
+        if options.step is not None:
+            raise ValueError("--step belongs to --from and --to, and --values has its own values")
         return list(options.values)
     if options.first is None or options.last is None:
         raise ValueError("the values are missing: say --from and --to, or --values")
-    return row_of_values(options.first, options.last, options.step)
+    return row_of_values(options.first, options.last, Decimal(1) if options.step is None else options.step)
 
 
 def asked_number(options: argparse.Namespace, problem: Problem) -> Tuple[What, str, Optional[Decimal]]:
