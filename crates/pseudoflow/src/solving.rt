@@ -8,8 +8,8 @@ use relaxation::Proposal;
 use residual_ends::Link;
 use std::alloc::{AllocError, Global};
 
-/// The most steps for each end of an arc. GENRMF's wide networks take 14, other families less; in a network of Cherkassky and
-/// Goldberg that is hard for any such method it would be thousands.
+/// The most steps for each end of an arc. GENRMF's wide networks take up to 20, meshes up to 18, other families 10 or less; a
+/// network that Cherkassky and Goldberg drew to be hard would take thousands.
 const STEPS: u64 = 24;
 
 /// Trees, by which excess is pushed to deficits.
