@@ -95,6 +95,11 @@ class Groups(unittest.TestCase):
                     ],
                 )
 
+    def test_a_refused_group_ends_at_its_end_in_any_letters(self) -> None:
+        for end in ("end", "End", " END "):
+            with self.subTest(end):
+                self.assertEqual(answers("GROUP", "cap nix 3", end, "cap cheap 4")[-2:], ["cost 8 (3 less)", "8 True"])
+
     def test_what_is_refused_at_the_end(self) -> None:
         said = answers("group", "low cheap 4", "cap dear 8", "end", "undo")
         self.assertEqual(

@@ -176,7 +176,7 @@ class Command(unittest.TestCase):
     def test_input_that_is_no_letter(self):
         """It is refused on its line alone, and a wrong answer is told whatever it has."""
         with mock.patch.dict(os.environ, {"PYTHONIOENCODING": "ascii"}):
-            out, _ = self.run_it("what-if", self.nodes, self.arcs, text="cap straße 1\ncap road 1\n")
+            out, _ = self.run_it("what-if", self.nodes, self.arcs, text="cap straße 1\ncap road 1\n", status=3)
         self.assertIn("refused, nothing is changed: there is no arc stra\\xc3\\x9fe", out)
         self.assertIn("cost 14.25 (2.75 more)", out)
         (Path(self.folder.name) / "answer").write_bytes(b"s 14\n\xdf\n")
@@ -438,7 +438,7 @@ class Command(unittest.TestCase):
         commands = self.file(
             "commands", "".join(f"{word} {self.arcs}\n" for word in ("write", "proof", "report", "table"))
         )
-        out, _ = self.run_it("what-if", self.nodes, self.arcs, "--commands", commands)
+        out, _ = self.run_it("what-if", self.nodes, self.arcs, "--commands", commands, status=3)
         self.assertEqual(out.count("refused, nothing is changed: arcs.csv: this would take the place of a table"), 4)
         self.assertEqual((Path(self.nodes).read_text(), Path(self.arcs).read_text()), (NODES, ARCS))
         for name, option in (("report.html", "--report"), ("plan.svg", "--picture")):
@@ -452,7 +452,7 @@ class Command(unittest.TestCase):
             ("sweep", text, "--cap", "#1", "--values", "1", "--chart", text),
         ):
             self.assertIn("take the place of the text", self.run_it(*words, status=3)[1])
-        out, _ = self.run_it("what-if", text, text=f"proof {text}\nreport {text}\nwrite {text}\n")
+        out, _ = self.run_it("what-if", text, text=f"proof {text}\nreport {text}\nwrite {text}\n", status=3)
         self.assertEqual((out.count("refused"), out.count("written")), (2, 1))
         self.run_it("convert", text, "-o", text)
         texts = self.file("nodes.txt", NODES), self.file("arcs.txt", ARCS)
@@ -488,8 +488,8 @@ class Command(unittest.TestCase):
         """The mark of UTF-8 is none of the first command, and what is no UTF-8 is refused on its line alone."""
         commands = Path(self.folder.name) / "commands"
         commands.write_bytes(b"\xef\xbb\xbfcap road 1\r\ncap stra\xdfe 1\r\nundo\r\n")
-        out, errors = self.run_it("what-if", self.nodes, self.arcs, "--commands", str(commands))
-        self.assertEqual(errors, TAKEN)
+        out, errors = self.run_it("what-if", self.nodes, self.arcs, "--commands", str(commands), status=3)
+        self.assertEqual(errors, f"{TAKEN}mcf-plan: {commands}: line 2 was not done\n")
         self.assertEqual(
             out.splitlines()[1:],
             [
@@ -555,8 +555,9 @@ class Command(unittest.TestCase):
             )
             + "\n",
         )
-        out, errors = self.run_it("what-if", self.nodes, self.arcs, "--commands", commands)
-        self.assertEqual(errors, TAKEN)
+        out, errors = self.run_it("what-if", self.nodes, self.arcs, "--commands", commands, status=3)
+        first = Path(commands).read_text().splitlines().index("back nowhere") + 1
+        self.assertEqual(errors, f"{TAKEN}mcf-plan: {commands}: 3 lines were not done, the first of them line {first}\n")
         for words in (
             "cost 11.5\nwhat if> cap road 1.5\ncost 12.875 (1.375 more)\nwhat if> undo\ncost 11.5 (1.375 less)\n",
             "no plan: short by 0.5; `why` tells more",
@@ -592,6 +593,22 @@ class Command(unittest.TestCase):
         out, _ = self.run_it("what-if", self.nodes, self.arcs, text="\ufeffcap road 1\n")
         self.assertIn("what if> cap road 1\ncost 14.25 (2.75 more)", out)
 
+    def test_what_if_says_by_its_status_which_line_was_not_done(self):
+        """As `ed` and `sqlite3` do, where the lines come from a file or a pipe: nobody may have seen the refusal."""
+        for lines, status, words in (
+            ("cap road 1\nundo\nshow\nwhy\n# remark\n\nhelp\nquit\nnonsense\n", 0, ""),
+            ("supply Ulm -9\nwhy\n", 0, ""),
+            ("cap road 1\ncap nix 1\nundo\n", 3, "line 2 was not done"),
+            ("\ncap nix 1\ncap road 1\nredo 2\n", 3, "2 lines were not done, the first of them line 2"),
+            ("group\ncap nix 1\ncap road 1\nend\nshow\n", 3, "line 2 was not done"),
+            ("group\ncap road 1\n", 3, "line 2 was not done"),
+            ("supply Ulm -9\ntable plan.csv\n", 3, "line 2 was not done"),
+            ("write nowhere/plan.min\nnonsense\n", 4, "2 lines were not done, the first of them line 1"),
+        ):
+            with self.subTest(lines):
+                _, errors = self.run_it("what-if", self.nodes, self.arcs, text=lines, status=status)
+                self.assertEqual(errors, TAKEN + (f"mcf-plan: the commands: {words}\n" if words else ""))
+
     def test_texts_of_a_wrong_answer_that_can_not_be_kept(self):
         errors, full = io.StringIO(), OSError(28, "No space left on device", "/tmp/mcf-plan-1")
         wrong = Disagreement("mcf check says of the answer: not valid", "p min 1 0\n", "s 0\n")
@@ -602,7 +619,7 @@ class Command(unittest.TestCase):
 
     def test_the_file_of_commands_is_kept(self):
         lines = "".join(f"{word} commands\n" for word in ("write", "proof", "report"))
-        out, _ = self.run_it("what-if", self.nodes, self.arcs, "--commands", self.file("commands", lines))
+        out, _ = self.run_it("what-if", self.nodes, self.arcs, "--commands", self.file("commands", lines), status=3)
         self.assertEqual(out.count("refused, nothing is changed: commands: this would take the place of the text"), 3)
         self.assertEqual((Path(self.folder.name) / "commands").read_text(), lines)
 

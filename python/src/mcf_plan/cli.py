@@ -46,7 +46,7 @@ STATUSES = """status:
   0    done
   1    there is no plan, or an answer is not valid
   2    the command line is refused
-  3    a table or a text is refused
+  3    a table, a text or a line of what-if is refused
   4    a file or the program mcf failed, or memory ran out
   6    there is no best plan: each unit more makes it better
   7    beyond the limits of the formats
@@ -621,8 +621,25 @@ def _what_if(options: argparse.Namespace) -> int:
     with ExitStack() as stack:
         source = stack.enter_context(_commands(options.commands)) if options.commands else sys.stdin
         session = stack.enter_context(_opened(options))
-        Conversation(session, sys.stdout, source.isatty(), options.tables, options.commands).run(source)
-    return 0
+        conversation = Conversation(session, sys.stdout, source.isatty(), options.tables, options.commands)
+        conversation.run(source)
+    # At a terminal whoever typed the line has seen it.
+    if conversation.is_terminal or not conversation.not_done:
+        return 0
+    first, error = conversation.not_done[0]
+    count = len(conversation.not_done)
+    words = f"line {first} was not done" if count == 1 else f"{count} lines were not done, the first of them line {first}"
+    where = options.commands or "the commands"
+    return _say(f"{where}: {words}", _status_of_line(error))
+
+
+def _status_of_line(error: BaseException) -> int:
+    """The status that a command ends in whose line was not done, for this reason."""
+    if isinstance(error, TimeLimit):
+        return TOO_LONG
+    if isinstance(error, KeyboardInterrupt):
+        return INTERRUPTED
+    return FAILED if isinstance(error, OSError) else REFUSED
 
 
 def _commands(name: str) -> TextIO:

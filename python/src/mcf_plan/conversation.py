@@ -7,7 +7,7 @@ import shlex
 import unicodedata
 from contextlib import ExitStack, suppress
 from decimal import Decimal
-from typing import Callable, Dict, List, Optional, Sequence, TextIO
+from typing import Callable, Dict, List, Optional, Sequence, TextIO, Tuple
 
 from .outputs import write_text
 from .plan import Infeasible
@@ -77,7 +77,10 @@ def number(text: str) -> str:
 
 class Conversation:
     """A what-if session in words: `session` answers, `out` takes what is said. No file takes the place of one of the
-    tables `inputs`, nor of the file of `commands`."""
+    tables `inputs`, nor of the file of `commands`.
+
+    `not_done` are the lines that were not done, by their numbers from 1, each with the reason.
+    """
 
     def __init__(
         self,
@@ -93,6 +96,8 @@ class Conversation:
         self.inputs = inputs
         self.commands = commands
         self.marked: Dict[str, str] = {}
+        self.line = 0  # the number of the line that is answered
+        self.not_done: List[Tuple[int, BaseException]] = []
         self.group: Optional[ExitStack] = None
         self.before: Optional[Decimal] = None  # the cost where the group began
         self.refusal: Optional[str] = None  # why the group is refused whose lines are passed over
@@ -151,16 +156,20 @@ class Conversation:
                 continue
             if not line and not self.is_terminal:
                 break
+            self.line += 1
             if not self.is_terminal and line.strip():
                 self.say(f"what if> {line.strip()}")
             if line.strip() in ("quit", "exit", "q"):
                 break
             try:
                 self.answer(line)
-            except KeyboardInterrupt:
+            except KeyboardInterrupt as error:
+                self.not_done.append((self.line, error))
                 self.say("interrupted: nothing is changed")
         if self.group is not None or self.refusal is not None:
-            self.leave_group(EditRefused("the group has no end"))
+            endless = EditRefused("the group has no end")
+            self.not_done.append((self.line, endless))
+            self.leave_group(endless)
             self.say("the group has no end: none of its edits is made")
 
     def answer(self, line: str) -> None:
@@ -178,12 +187,15 @@ class Conversation:
         except KeyError as error:
             self.refuse(error, str(error.args[0]) + self.meant(words[1:]))
         except TimeLimit as error:
+            self.not_done.append((self.line, error))
             self.say(f"stopped, nothing is changed: {error}")
         except OSError as error:
+            self.not_done.append((self.line, error))
             self.say(f"not written: {of_system(error)}")
 
     def refuse(self, error: Exception, reason: str) -> None:
         """Tells that a line is refused, and with it the group that it stands in."""
+        self.not_done.append((self.line, error))
         if self.group is None:
             return self.say(f"refused, nothing is changed: {reason}")
         self.leave_group(error)
@@ -203,7 +215,7 @@ class Conversation:
 
     def pass_over(self, line: str) -> None:
         """Passes over a line of a refused group, up to its `end`."""
-        if line.split() == ["end"]:
+        if line.lower().split() == ["end"]:
             reason, self.refusal = self.refusal, None
             self.say(f"the group is refused, nothing is changed: {reason}")
         elif line.strip() and not line.lstrip().startswith("#"):
@@ -355,6 +367,6 @@ class Conversation:
         self.check_kept(name)
         result = self.session.plan(check=True)
         if isinstance(result, Infeasible):
-            return self.say("there is no plan to write")
+            raise EditRefused("there is no plan to write")
         write_plan(result, name)
-        return self.say(f"written to {name}")
+        self.say(f"written to {name}")
