@@ -557,7 +557,9 @@ class Command(unittest.TestCase):
         )
         out, errors = self.run_it("what-if", self.nodes, self.arcs, "--commands", commands, status=3)
         first = Path(commands).read_text().splitlines().index("back nowhere") + 1
-        self.assertEqual(errors, f"{TAKEN}mcf-plan: {commands}: 3 lines were not done, the first of them line {first}\n")
+        self.assertEqual(
+            errors, f"{TAKEN}mcf-plan: {commands}: 3 lines were not done, the first of them line {first}\n"
+        )
         for words in (
             "cost 11.5\nwhat if> cap road 1.5\ncost 12.875 (1.375 more)\nwhat if> undo\ncost 11.5 (1.375 less)\n",
             "no plan: short by 0.5; `why` tells more",

@@ -98,9 +98,42 @@ class ReadAgain(unittest.TestCase):
 
     @unittest.skipUnless(pandas, "no pandas here: frames are not tried")
     def test_both_frames(self):
+        """The prices of the nodes are left aside as what tells of the flow is, in frames and in what is made of them."""
+        problem = shipped(NAMES[0])
+        problem.nodes["Köln"] = Decimal("4.375")
+        for surplus in ("keep", 2):
+            plan = problem.solve(surplus=surplus)
+            nodes, arcs = plan.nodes_to_frame(), plan.to_frame()
+            files = self.folder / "n.csv", self.folder / "a.csv"
+            commas = self.folder / "n;.csv", self.folder / "a;.csv"
+            for frame, file, other in zip((nodes, arcs), files, commas):
+                frame.to_csv(file)
+                frame.to_csv(other, sep=";", decimal=",")
+            for pair, decimal in (
+                ((nodes, arcs), None),
+                ((nodes.reset_index(), arcs.reset_index()), None),
+                (files, "."),
+                (tuple(map(pandas.read_csv, files)), None),
+                (commas, ","),
+            ):
+                again = read_tables(*pair, decimal=decimal)
+                self.assertEqual((again.arcs, again.nodes), (problem.arcs, problem.nodes))
+                self.assertIn("the columns 'kept' and 'price' are left aside", "\n".join(again.notes))
+
+    @unittest.skipUnless(pandas, "no pandas here: frames are not tried")
+    def test_prices_of_others(self):
+        """A price of a node that mcf-plan did not write is refused: it may be what a unit costs there."""
         plan = shipped(NAMES[0]).solve()
-        again = Problem.from_frames(plan.nodes_to_frame(), plan.to_frame(), columns={"aside": "price"})
-        self.assertEqual((again.arcs, again.nodes), (plan.problem.arcs, plan.problem.nodes))
+        nodes, arcs = plan.nodes_to_frame(), plan.to_frame()
+        own = arcs[["from", "to", "low", "capacity", "unit cost"]]
+        for pair in (
+            (nodes, own),
+            (nodes.assign(price=[0, 1, 0]), arcs),
+            (nodes.assign(offer=[1, 2, 3]).drop(columns="supply"), arcs),
+            (nodes.assign(region="north"), arcs),
+        ):
+            with self.assertRaisesRegex(TableFault, "the column 'price' is not understood: the cost of a unit belongs"):
+                Problem.from_frames(*pair)
 
     def test_a_maximum_flow(self):
         problem = Problem("max", source="a", sink="b")

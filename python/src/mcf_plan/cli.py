@@ -628,7 +628,9 @@ def _what_if(options: argparse.Namespace) -> int:
         return 0
     first, error = conversation.not_done[0]
     count = len(conversation.not_done)
-    words = f"line {first} was not done" if count == 1 else f"{count} lines were not done, the first of them line {first}"
+    words = (
+        f"line {first} was not done" if count == 1 else f"{count} lines were not done, the first of them line {first}"
+    )
     where = options.commands or "the commands"
     return _say(f"{where}: {words}", _status_of_line(error))
 

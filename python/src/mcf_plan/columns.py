@@ -25,6 +25,7 @@ from .vocabulary import (
     LIMITING,
     LOSSES,
     OWN,
+    OWN_OF_NODES,
     PARTS,
     STAND_INS,
     SWITCHES,
@@ -86,17 +87,25 @@ _TELLING.update({word: ["capacity"] for word in LIMITING})
 
 
 def find_columns(
-    sheet: Sheet, kinds: Sequence[str], chosen: Mapping[str, Sequence[str]], *, unused: Collection[str] = ()
+    sheet: Sheet,
+    kinds: Sequence[str],
+    chosen: Mapping[str, Sequence[str]],
+    *,
+    unused: Collection[str] = (),
+    beside_plan: bool = False,
 ) -> Found:
     """Which column holds which of the things `kinds`. Notes of what was chosen are added to the sheet.
 
     `chosen` are names of columns that were said, for a thing or for 'aside'. Columns of things that are `unused` are
-    left aside. Raises TableFault where a column that looks like one that matters is not understood, and where two are
+    left aside. `beside_plan` says that the other table is a plan that mcf-plan wrote. Raises TableFault where a column that looks like one that matters is not understood, and where two are
     the same thing.
     """
     found = Found()
     told = _told(sheet, kinds, chosen)
-    own = _own_columns(sheet, {*told.values(), *unused}) if "cost" in kinds else set()
+    if "cost" in kinds:
+        own = _own_columns(sheet, {*told.values(), *unused})
+    else:
+        own = _own_columns_of_nodes(sheet) if beside_plan else set()
     found.is_plan = bool(own)
     told.update(dict.fromkeys(own - told.keys(), "aside"))
     aside = [place for place, what in told.items() if what == "aside"]
@@ -185,6 +194,18 @@ def _own_columns(sheet: Sheet, said: Collection[str]) -> Set[int]:
             "what the flow does; `--columns cost=cost` says that it is what a unit costs"
         )
     return set()
+
+
+def _own_columns_of_nodes(sheet: Sheet) -> Set[int]:
+    """The places of the columns that `Plan.nodes_to_frame` adds to names and supplies; none where this is no such
+    table. Its prices are 0 or below, and a node's price that somebody else wrote would rather be above."""
+    places = {folded(header): place for place, header in enumerate(sheet.header)}
+    if "price" not in places or not places.keys() <= {"", "node", "supply", *OWN_OF_NODES}:
+        return set()
+    for cell in sheet.columns[places["price"]]:
+        if not is_empty(cell) and not re.fullmatch(r"-.*|0([.,]0*)?", str(cell).strip()):
+            return set()
+    return {places[name] for name in OWN_OF_NODES if name in places}
 
 
 def match_of(header: str, kinds: Sequence[str]) -> Optional[Match]:

@@ -73,7 +73,8 @@ def read_tables(
     ends = dict.fromkeys(chain.from_iterable(zip(tails, heads)))
     node_table = None
     if node_sheet is not None:
-        found = find_columns(node_sheet, NODE_COLUMNS, reading.columns)
+        is_plan = arc_table.found.is_plan
+        found = find_columns(node_sheet, NODE_COLUMNS, reading.columns, beside_plan=is_plan)
         node_table = Table(node_sheet, found, reading)
         _find_names(node_table, ends)
         compare_units({**_units(node_table), **_units(arc_table)})

@@ -171,6 +171,9 @@ OWN = (
 """The tables of plans that `write_plan`, `Plan.to_frame` and `report.to_json` write: each by the column that has what a
 unit costs, and the columns that tell of the flow. Where all of one are there, these are left aside."""
 
+OWN_OF_NODES = ("kept", "not met", "price")
+"""What `Plan.nodes_to_frame` tells of the nodes of a plan, beside their supplies."""
+
 FIXED = frozenset("fixed fix setup fixkosten fixe fixes fixo fijo fija fijos".split())
 """Columns that speak of what is paid once, however much flows."""
 
