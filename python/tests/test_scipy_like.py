@@ -100,6 +100,15 @@ class ScipyLike(unittest.TestCase):
         with self.assertRaises(TimeLimit):
             linear_sum_assignment([[1]], time_limit=0)
 
+    def test_short_floats(self) -> None:
+        """They are taken as they are printed; in 64 bits they have more digits than there is room for."""
+        import numpy as np
+
+        for dtype in ("float32", "float16"):
+            matrix = np.array([[0.3, 0.1, 0.9], [0.2, 0.7, np.inf]], dtype=dtype)
+            self.assertEqual(linear_sum_assignment(matrix)[1].tolist(), [1, 0])
+            self.assertEqual(linear_sum_assignment(matrix.T)[0].tolist(), [0, 1])
+
     def test_examples(self) -> None:
         self.assertEqual(doctest.testmod(scipy_like).failed, 0)
 

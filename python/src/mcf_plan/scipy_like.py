@@ -83,8 +83,11 @@ def assigned(
     for column in range(width):
         problem.add_node(f"column {column}", -1)
     pairs: List[Tuple[int, int]] = []
+    # Short floats are taken as they are printed, as all others are: in 64 bits 0.1 would be 0.10000000149011612.
+    is_short = matrix.dtype.kind == "f" and matrix.dtype.itemsize < 8
+    entries = [[float(str(cost)) for cost in costs] for costs in matrix] if is_short else matrix.tolist()
     # The last row first: of assignments that cost the same, the solver then tends to find the one that scipy tells.
-    for row, costs in reversed(list(enumerate(matrix.tolist()))):
+    for row, costs in reversed(list(enumerate(entries))):
         for column, cost in enumerate(costs):
             if abs(cost) != float("inf"):
                 problem.add_arc(f"row {row}", f"column {column}", cap=1, cost=-cost if maximize else cost)
