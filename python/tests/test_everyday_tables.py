@@ -17,6 +17,7 @@ from pathlib import Path
 
 from mcf_plan.cli import main
 from mcf_plan.tables import TableFault, read_tables
+from mcf_plan.workbook import write_sheet
 
 CASES = Path(__file__).with_name("everyday_tables.txt")
 TAKEN = r"note: (amounts go in steps of [0.]+1, by the decimals in the tables|\d+ arcs? without a capacity may .*)\n"
@@ -169,6 +170,17 @@ class Workbooks(InFolder):
                 status, out, errors = run(path)
                 self.assertEqual(status, 0 if wanted.startswith("cost") else 7 if "--round" in wanted else 3, errors)
                 self.assertRegex(out + errors, wanted.replace("beyond: ", "").replace("4+5", "4.5"))
+
+    @needs("openpyxl")
+    def test_names_of_many_digits(self):
+        """Where they stand in full they are read so; where a float stands they were rounded, and two may be one."""
+        one, other = 1234567890123456788, 1234567890123456789
+        nodes, arcs = [["name", "supply"], [one, 5], [other, -5]], [HEAD, [one, other, 9, 2.5]]
+        write_sheet(Path("own.xlsx"), "nodes", nodes)
+        write_sheet(Path("own.xlsx"), "arcs", arcs)
+        self.assertEqual(list(read_tables(None, "own.xlsx").nodes), [str(one), str(other)])
+        with self.assertRaisesRegex(TableFault, "a number of so many digits was rounded: write it as a text"):
+            read_tables(None, book("book.xlsx", nodes=nodes, arcs=arcs))
 
     @needs("openpyxl")
     def test_what_is_seen_and_what_is_not(self):
@@ -627,6 +639,7 @@ class Frames(unittest.TestCase):
             ("a Decimal", ["Kiel", "Berlin", 9, Decimal("2.5")], 12.5),
             ("thousands in a text", ["Kiel", "Berlin", "1.250", 2.5], "is it 1.250 or 1250"),
             ("no name", ["Kiel", None, 9, 2.5], "column 'to': None stands there; a name was expected"),
+            ("bytes", [b"Kiel", "Berlin", 9, 2.5], "b'Kiel' stands there; a name was expected, and this is bytes and"),
         ):
             frame = pandas.DataFrame([row], columns=HEAD, dtype=object)
             with self.subTest(title):
@@ -848,6 +861,28 @@ class Maps(InFolder):
                 [kiel, berlin, None, line(*ends, **road)],
                 "cost 12.5[^:]*\n(.*\n)*note: .* 1 of its features without a geometry is left aside",
             ),
+            (
+                "a place without a geometry",
+                [kiel, berlin, {**area, "geometry": None, "properties": {"name": "Ulm", "supply": 3}}],
+                "feature 3: it has no geometry, and a place is a Point",
+            ),
+            (
+                "an area that supplies",
+                [{**area, "properties": {"name": "Kiel", "supply": 5}}, berlin, line([0, 0], [1, 1], **said, **road)],
+                "feature 1: its geometry is a Polygon, and a place is a Point; give it one, or give two tables",
+            ),
+            (
+                "a road without a geometry",
+                [kiel, berlin, {**area, "geometry": None, "properties": {**said, **road}}],
+                "feature 3: it has no geometry, and a road is a LineString",
+            ),
+            (
+                "an area with other words",
+                [kiel, berlin, line(*ends, **road), {**area, "properties": {"name": "Hesse", "source": "OSM"}}],
+                "1 of its features is a Polygon, and left aside",
+            ),
+            ("a point in place of a feature", [kiel, berlin["geometry"]], "feature 2: this is no feature"),
+            ("a number in place of a feature", [kiel, 7], "feature 2: this is no feature"),
             ("no geometry", [kiel, berlin, {**area, "geometry": [1, 2]}], "feature 3: its geometry and its properties"),
             ("no properties", [kiel, {**berlin, "properties": ["name"]}], "feature 2: its geometry and its properties"),
             (

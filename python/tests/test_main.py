@@ -725,6 +725,19 @@ class Command(unittest.TestCase):
                 _, errors = self.run_it(command, self.nodes, self.arcs, *rest, status=2)
                 self.assertIn(reason, errors)
 
+    def test_names_of_tables_that_are_none(self):
+        for words, status, reason in (
+            (("plan", "", self.arcs), 2, "argument TABLE: the name of a file is empty"),
+            (("plan", ""), 2, "argument TABLE: the name of a file is empty"),
+            (("check", "", "answer"), 2, "argument PROBLEM: the name of a file is empty"),
+            (("check", self.nodes, ""), 2, "argument ANSWER: the name of a file is empty"),
+            (("faults", ""), 2, "argument PROBLEM: the name of a file is empty"),
+            (("plan", self.nodes, "-"), 3, "-: a table is a file; the input is one by the name of /dev/stdin"),
+        ):
+            with self.subTest(words):
+                self.assertIn(reason, self.run_it(*words, text=ARCS, status=status)[1])
+        self.assertIn("cost 11.5", self.run_it("plan", self.nodes, "/dev/stdin", text=ARCS)[0])
+
     def test_port_that_is_taken(self):
         with socket.create_server(("127.0.0.1", 0)) as taken:
             port = str(taken.getsockname()[1])

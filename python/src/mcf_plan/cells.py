@@ -48,6 +48,8 @@ NO_LIMIT = frozenset(
 """Words by which a capacity says that there is no limit; so does an empty cell."""
 
 MONEY = "€$£¥"
+MOST_EXACT = 2**53
+"""Up to here each whole number is a float."""
 _WELL_FORMED = re.compile(r"([+-]?)(\d[\d.,]*|[.,]\d+)([eE][+-]?\d{1,3})?", re.ASCII)
 _WITH_EXPONENT = re.compile(r"[+-]?[\d.,]+[eE][+-]?\d+", re.ASCII)
 _PLAIN_NAME = re.compile(r"[A-Z][a-z]{3,}( [A-Za-z0-9]+)*")
@@ -91,6 +93,8 @@ def not_plain(cell: Any) -> Optional[str]:
         return "a truth value, which is no number and no name"
     if isinstance(cell, str) and ERROR.fullmatch(cell.strip()):
         return "an error of the spreadsheet"
+    if isinstance(cell, bytes):
+        return "bytes and no text: decode it, as by .str.decode('utf-8')"
     return None
 
 
@@ -113,6 +117,8 @@ def name_of(cell: Any) -> str:
     if is_empty(cell):
         return ""
     if _is_whole(cell):
+        if isinstance(cell, float) and abs(cell) > MOST_EXACT:
+            raise CellFault("a name was expected, and a number of so many digits was rounded: write it as a text")
         cell = int(cell)
     if isinstance(cell, datetime.datetime) and cell.time() == datetime.time():
         cell = cell.date()
@@ -295,7 +301,7 @@ def number_hint(cell: str) -> str:
         return ": write a plain - before a number that is below 0"
     if "%" in cell:
         return ": write the number without a percent sign"
-    if any(sign in cell for sign in MONEY) or re.match(r"[A-Za-z]{3}\s*[\d.,]+$", cell):
+    if any(sign in cell for sign in MONEY) or re.match(r"[A-Za-z]{3}\s*[.,]?\d[\d.,]*$", cell):
         return ": leave the currency out; it can stand in the name of the column, as in 'cost (EUR)'"
     if re.fullmatch(r"\d{1,4}[-/.]\d{1,2}[-/.]\d{1,4}", cell):
         return ", and this looks like a date"

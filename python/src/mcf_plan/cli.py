@@ -228,8 +228,8 @@ def _parser() -> argparse.ArgumentParser:
     )
 
     check = command("check", _check, "check an answer to a problem text, whoever made it", tables=False)
-    check.add_argument("problem", metavar="PROBLEM")
-    check.add_argument("answer", metavar="ANSWER")
+    check.add_argument("problem", metavar="PROBLEM", type=file_named)
+    check.add_argument("answer", metavar="ANSWER", type=file_named)
     check.add_argument(
         "--from",
         dest="maker",
@@ -239,8 +239,10 @@ def _parser() -> argparse.ArgumentParser:
     )
 
     faults = command("faults", _faults, "say what is wrong with a problem text, and how to mend it", tables=False)
-    faults.add_argument("problem", metavar="PROBLEM")
-    faults.add_argument("answer", metavar="ANSWER", nargs="?", help="an answer to it, to be looked at too")
+    faults.add_argument("problem", metavar="PROBLEM", type=file_named)
+    faults.add_argument(
+        "answer", metavar="ANSWER", type=file_named, nargs="?", help="an answer to it, to be looked at too"
+    )
 
     convert = command(
         "convert", _convert, "write tables, or a text of another program, as a text that mcf reads", tables=True
@@ -262,6 +264,7 @@ def _add_tables(parser: argparse.ArgumentParser) -> None:
         "tables",
         metavar="TABLE",
         nargs="+",
+        type=file_named,
         help="the tables of nodes and arcs (.csv, .tsv, .xlsx, or book.xlsx:SHEET), one workbook or map (.geojson) "
         "that has both, that of arcs alone, or a problem text",
     )
@@ -401,6 +404,8 @@ def _tell_of(problem: Problem) -> None:
 def _read_source(options: argparse.Namespace) -> Problem:
     """The problem of the tables, or of the text."""
     tables = options.tables
+    if len(tables) == 2 and "-" in tables:
+        raise TableFault("-: a table is a file; the input is one by the name of /dev/stdin")
     if len(tables) > 2:
         raise TableFault(f"{len(tables)} tables are given, and there are two: that of nodes, then that of arcs")
     if len(tables) == 1 and not is_table(tables[0]):

@@ -129,8 +129,9 @@ def find_columns(
             matches.setdefault(match.what, []).append((place, match))
     if not matches and not (sheet.index and "node" in kinds):
         raise TableFault(
-            f"{sheet.name}: no column is understood; the names of the columns come first, and here "
-            f"{sheet.its_columns()} stand there; `--columns {kinds[0]}=NAME` names one that is called otherwise"
+            f"{sheet.name}: no column is understood; the names of the columns come first, and here they are "
+            f"{sheet.its_columns()}; take out what stands above them, or name one that is called otherwise by "
+            f"`--columns {kinds[0]}=NAME`"
         )
     for what, its in matches.items():
         aside += _choose(sheet, what, its, found)
@@ -141,12 +142,15 @@ def find_columns(
             aside.append(place)
     compare_units({what: (unit, sheet, sheet.header[found.places[what]]) for what, unit in found.units.items()})
     if aside:
-        names = [repr(sheet.header[place]) if sheet.header[place] else "one without a name" for place in sorted(aside)]
-        sheet.notes.append(
-            f"{sheet.name}: the column {names[0]} is left aside"
-            if len(names) == 1
-            else f"{sheet.name}: the columns {', '.join(names[:-1])} and {names[-1]} are left aside"
-        )
+        names = [repr(sheet.header[place]) for place in sorted(aside) if sheet.header[place]]
+        names += ["one without a name"] if len(names) < len(aside) else []
+        if len(aside) == 1:
+            what = f"the column {names[0]} is" if sheet.header[aside[0]] else "the column without a name is"
+        elif len(names) == 1:
+            what = "columns without a name are"
+        else:
+            what = f"the columns {', '.join(names[:-1])} and {names[-1]} are"
+        sheet.notes.append(f"{sheet.name}: {what} left aside")
     return found
 
 

@@ -12,6 +12,7 @@ from .columns import folded, match_of
 from .sheets import Sheet
 
 Point = Tuple[float, ...]
+_GEOMETRIES = ("Point", "LineString", "Polygon", "MultiPoint", "MultiLineString", "MultiPolygon", "GeometryCollection")
 
 
 class _Feature(NamedTuple):
@@ -35,12 +36,18 @@ def read_map(path: Path) -> Tuple[Optional[Sheet], Optional[Sheet]]:
     others: Dict[str, int] = {}
     for number, feature in enumerate(features, 1):
         place = f"{path.name}, feature {number}"
-        said = feature if isinstance(feature, dict) else {}
-        geometry, properties = said.get("geometry") or {}, said.get("properties") or {}
+        if feature is None:
+            others["None"] = others.get("None", 0) + 1
+            continue
+        if not isinstance(feature, dict) or feature.get("type") in _GEOMETRIES:
+            raise TableFault(f"{place}: this is no feature, which has a geometry and properties")
+        geometry, properties = feature.get("geometry") or {}, feature.get("properties") or {}
         if not isinstance(geometry, dict) or not isinstance(properties, dict):
             raise TableFault(f"{place}: its geometry and its properties have to be objects, or null")
         kind = geometry.get("type")
         if kind not in ("Point", "LineString"):
+            if not str(kind).startswith("Multi"):
+                _check_unused(place, kind, properties)
             others[str(kind)] = others.get(str(kind), 0) + 1
             continue
         ends = _positions(place, kind, geometry.get("coordinates"))
@@ -62,6 +69,16 @@ def read_map(path: Path) -> Tuple[Optional[Sheet], Optional[Sheet]]:
     if nodes is None and arcs is None:
         raise TableFault(f"{path.name}: there are neither points nor lines")
     return nodes, arcs
+
+
+def _check_unused(place: str, kind: Any, properties: Dict[str, Any]) -> None:
+    """Raises TableFault where a feature that is neither a point nor a line says what a place or a road does."""
+    matches = [match_of(key, ["supply", "demand", "from", "to"]) for key, value in properties.items() if value]
+    said = {match.what for match in matches if match is not None}
+    if said & {"supply", "demand"} or said >= {"from", "to"}:
+        what = "it has no geometry" if kind is None else f"its geometry is a {kind}"
+        needed = "a place is a Point" if said & {"supply", "demand"} else "a road is a LineString"
+        raise TableFault(f"{place}: {what}, and {needed}; give it one, or give two tables in place of the map")
 
 
 def _features(path: Path) -> List[Any]:

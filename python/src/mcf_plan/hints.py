@@ -162,6 +162,8 @@ def first_word_hint(word: str, line: str, *, is_first: bool) -> str:
         return f"Write it as a small letter: {word.lower()}."
     if word in ("s", "f", "v", "i", "k"):
         return "Is this an answer in place of a problem?"
+    if is_first and re.search(r"[,;\t]", line):
+        return "Is this a table? Its name has to end in .csv or .tsv then."
     if word.lower() in ("arc", "e", "edge"):
         return "An arc line begins with a."
     if word.lower() in ("node", "nodes", "v"):
@@ -174,8 +176,6 @@ def first_word_hint(word: str, line: str, *, is_first: bool) -> str:
         return "There is a character in it that is no plain letter."
     if re.fullmatch(r"-?\d+", word):
         return "An arc line begins with a, a node line with n."
-    if re.search(r"[,;]", line) and is_first:
-        return "A table is read by `mcf-plan plan`, and not as a problem."
     return ""
 
 

@@ -14,6 +14,13 @@ DELIMITERS = ",;\t|"
 WORKBOOKS = (".xlsx", ".xlsm")
 OTHER_SPREADSHEETS = (".xls", ".xlsb", ".ods", ".numbers")
 MAPS = (".geojson", ".json")
+OTHER_FILES: Tuple[Tuple[Tuple[bytes, ...], str], ...] = (
+    ((b"PK\x03\x04", b"PK\x05\x06"), "a spreadsheet by another name; give it its ending .xlsx"),
+    ((b"\xd0\xcf\x11\xe0",), "an old workbook (.xls) by another name; save it as .xlsx or as CSV"),
+    ((b"\x1f\x8b", b"BZh91AY", b"\xfd7zXZ", b"(\xb5/\xfd", b"7z\xbc\xaf"), "a packed file; unpack it first"),
+    ((b"%PDF-", b"PAR1", b"\x89PNG", b"\x89HDF"), "no text; save the table as CSV in UTF-8"),
+)
+"""What files that are no texts begin with, and what to say of them."""
 
 
 @dataclass
@@ -163,8 +170,9 @@ def _rows(text: str, name: str, delimiter: str) -> Tuple[List[Sequence[str]], Li
 
 def _decoded(raw: bytes, name: str, encoding: Optional[str]) -> str:
     """The text of a file. Raises TableFault where it is none."""
-    if raw[:2] == b"PK":
-        raise TableFault(f"{name}: this is a spreadsheet by another name; give it its ending .xlsx")
+    for marks, words in OTHER_FILES:
+        if raw.startswith(marks):
+            raise TableFault(f"{name}: this is {words}")
     if raw[:2] in (b"\xff\xfe", b"\xfe\xff"):
         encoding = "utf-16"
     elif raw[:3] == b"\xef\xbb\xbf":
@@ -177,6 +185,8 @@ def _decoded(raw: bytes, name: str, encoding: Optional[str]) -> str:
         line = len(re.findall(rb"\r\n|\r|\n", raw[: error.start])) + 1
         if encoding:
             raise TableFault(f"{name}, line {line}: a byte that is no {encoding}") from None
+        if re.search(rb"[\x00-\x08\x0e-\x1f]", raw[:1000]):
+            raise TableFault(f"{name}: this is no text; save the table as CSV in UTF-8") from None
         begin = re.split(rb"[\r\n]", raw[: error.start])[-1]
         word = raw[error.start - len(begin) :].split(b"\n")[0].strip()[:40].decode("cp1252", "replace")
         raise TableFault(

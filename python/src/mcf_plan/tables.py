@@ -13,7 +13,7 @@ from decimal import Decimal
 from io import StringIO
 from itertools import chain
 from pathlib import Path
-from typing import TYPE_CHECKING, Any, Collection, Dict, Iterable, List, Mapping, Optional, Sequence, Tuple, Union
+from typing import TYPE_CHECKING, Any, Collection, Dict, Iterable, List, Mapping, Optional, Sequence, Set, Tuple, Union
 
 from .cells import TableFault, is_empty, limit_fault, name_of
 from .columns import called, compare_units, find_columns, folded
@@ -65,7 +65,8 @@ def read_tables(
     ends_of_flow = [None if name is None else name_of(name) for name in (source, sink)]
     problem = Problem(kind, balance=balance, source=ends_of_flow[0], sink=ends_of_flow[1])
     node_sheet, arc_sheet = find_sheets(nodes, arcs, reading.encoding)
-    _check_order(node_sheet, arc_sheet)
+    _check_order(node_sheet, arc_sheet, reading)
+    _check_shape(node_sheet, arc_sheet, reading)
     _check_chosen(reading, node_sheet, arc_sheet)
     unused = ("cost",) if kind == "max" else ()
     arc_table = Table(arc_sheet, find_columns(arc_sheet, ARC_COLUMNS, reading.columns, unused=unused), reading)
@@ -97,14 +98,38 @@ def read_tables(
 # ---------------------------------------------------------------- which columns
 
 
-def _check_order(nodes: Optional[Sheet], arcs: Sheet) -> None:
-    """Raises TableFault where the two tables stand the wrong way round."""
+def _words(*things: str) -> Set[str]:
+    """The words for columns of these things, without those that are short or have another meaning too."""
+    return {folded(word) for what in things for word in COLUMNS[what]} - {"source", "end", "a", "de"}
+
+
+def _check_order(nodes: Optional[Sheet], arcs: Sheet, reading: Reading) -> None:
+    """Raises TableFault where the two tables stand the wrong way round, or that of nodes is there alone."""
+    ends, its_columns = _words("from", "to"), set(map(folded, arcs.header))
     if nodes is None:
-        return
-    ends = {folded(word) for what in ("from", "to") for word in COLUMNS[what]} - {"source", "end", "a", "de"}
-    if len(ends & set(map(folded, nodes.header))) >= 2 and not ends & set(map(folded, arcs.header)):
+        is_named = "from" in reading.columns or "to" in reading.columns
+        if _words("supply", "demand") & its_columns and not ends & its_columns and not is_named:
+            raise TableFault(f"{arcs.name} looks like the table of nodes: give the table of arcs behind it")
+    elif len(ends & set(map(folded, nodes.header))) >= 2 and not ends & its_columns:
         raise TableFault(
             f"{nodes.name} looks like the table of arcs: the table of nodes comes first, then that of arcs"
+        )
+
+
+def _check_shape(nodes: Optional[Sheet], arcs: Sheet, reading: Reading) -> None:
+    """Raises TableFault where the table of arcs is a matrix, with a column for each node that an arc leads to."""
+    header = [name for name in arcs.header[1:] if name]
+    its_columns = set(map(folded, arcs.header))
+    has_ends = all(_words(what) & its_columns or what in reading.columns for what in ("from", "to"))
+    if len(header) < 2 or has_ends:
+        return
+    names = set(map(str, arcs.columns[0]))
+    for column in () if nodes is None else nodes.columns:
+        names.update(map(str, column))
+    if 2 * sum(name in names for name in header) > len(header):
+        raise TableFault(
+            f"{arcs.name} looks like a matrix, with columns for the nodes {_some(header)}: give each arc a row of its "
+            "own, under the columns from, to, capacity and cost"
         )
 
 

@@ -270,7 +270,7 @@ class _Reader:
         look = self.looks[style] if style < len(self.looks) else ""
         if look:
             return _date(float(text), self.day_0) if look == "date" else f"{float(text) * 100:g}%"
-        return int(text) if re.fullmatch(r"-?\d{1,15}", text) else float(text)
+        return int(text) if re.fullmatch(r"-?\d{1,60}", text) else float(text)
 
 
 def _is_hidden(element: ElementTree.Element, size: str) -> bool:
