@@ -18,6 +18,7 @@ from .vocabulary import (
     AMOUNTS,
     COLUMNS,
     COSTLY,
+    EARNINGS,
     ENDS,
     FIXED,
     HARMLESS,
@@ -60,7 +61,7 @@ def folded(text: str) -> str:
     """
     text = re.sub(r"(?<=[a-zß-ÿ])(?=[A-Z][a-zß-ÿ])", " ", text)
     bare = "".join(c for c in unicodedata.normalize("NFKD", text.casefold()) if not unicodedata.combining(c))
-    return " ".join(re.sub(r"[\s_\-.:/]+", " ", bare.replace("œ", "oe")).split())
+    return " ".join(re.sub(r"[\s_\-.:/?!*]+", " ", bare.replace("œ", "oe")).split())
 
 
 def _words_of(table: Mapping[str, Sequence[str]]) -> Dict[str, List[str]]:
@@ -337,9 +338,11 @@ def _why_it_matters(name: str, header: str, different: int, kinds: Tuple[Sequenc
         return "what is paid once, however much flows, can't be said: a cost is that of a unit"
     if tokens & SWITCHES and not _telling(name, open_kinds):
         return "each row counts; give the table without those that do not"
-    if tokens & PARTS:
-        return "all rows are one problem; give those of one plan alone" if different > 1 else ""
-    near = _near(name, header, open_kinds)
+    if tokens & PARTS and different > 1:
+        return "all rows are one problem; give those of one plan alone"
+    if "cost" in of_table and tokens & EARNINGS:
+        return "what a unit earns is a cost below 0: take it off the cost"
+    near = None if tokens & PARTS else _near(name, header, open_kinds)
     if near:
         return f"did you mean {near[0]!r}? `--columns {near[1]}={quoted(header)}` says so"
     what = _telling(name, open_kinds)
@@ -352,6 +355,8 @@ def _of_other_table(tokens: Collection[str], kinds: Sequence[str]) -> str:
     if "from" in kinds and things & {"supply", "demand"}:
         return "supplies and demands stand in the table of nodes, with a row for each node"
     if "node" in kinds:
+        if not (COSTLY | EARNINGS).isdisjoint(tokens):
+            things.add("cost")
         for what in ("low", "capacity", "cost"):
             if what in things:
                 return f"{called(what)} belongs to an arc; a node that has one is parted in two, with an arc between"

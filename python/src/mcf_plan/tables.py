@@ -166,9 +166,10 @@ def _find_names(table: Table, ends: Iterable[str]) -> None:
             )
         found.places["node"] = used[0]
         rest = [repr(sheet.header[place]) for place in found.names if place != used[0]]
+        is_left = "is left aside" if len(rest) == 1 else "are left aside"
         sheet.notes.append(
             f"{sheet.name}: the nodes are called as in the column {sheet.header[used[0]]!r}, as in the table of arcs; "
-            f"{', '.join(rest)} is left aside"
+            f"{', '.join(rest)} {is_left}"
         )
         return
     if sheet.index is not None and any(isinstance(name, str) and name_of(name) in wanted for name in sheet.index):

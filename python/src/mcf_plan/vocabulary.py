@@ -111,7 +111,7 @@ TWO_WAYS = frozenset(
 SWITCHES = frozenset(
     (
         "active inactive open closed enabled disabled blocked usable status valid allowed permitted forbidden excluded "
-        "exclude "
+        "exclude excluding include included including use delete deleted skip ignore ignored suspended cancelled "
         "aktiv inaktiv offen gesperrt sperre geschlossen gultig erlaubt zulassig verboten "
         "actif ouvert ferme statut valide autorise interdit "
         "activo abierto cerrado estado valido permitido prohibido "
@@ -149,6 +149,16 @@ COSTLY = frozenset(
     ).split()
 )
 """Words that are no name of a column, and speak of a cost."""
+
+EARNINGS = frozenset(
+    (
+        "revenue revenues profit profits margin margins earning earnings income "
+        "erlos erlose gewinn gewinne marge ertrag deckungsbeitrag umsatz "
+        "recette recettes benefice benefices marges "
+        "ingreso ingresos beneficio beneficios ganancia margen "
+    ).split()
+)
+"""Columns that speak of what a unit earns."""
 
 LIMITING = frozenset(("load bound ").split())
 """Words that are no name of a column, and speak of a capacity."""
