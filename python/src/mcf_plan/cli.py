@@ -409,29 +409,7 @@ def _read_source(options: argparse.Namespace) -> Problem:
     if len(tables) > 2:
         raise TableFault(f"{len(tables)} tables are given, and there are two: that of nodes, then that of arcs")
     if len(tables) == 1 and not is_table(tables[0]):
-        for what, unused in (
-            ("columns", options.columns),
-            ("decimal", options.decimal),
-            ("default-cost", options.default_cost),
-            ("encoding", options.encoding),
-        ):
-            if unused not in (None, []):
-                raise TableFault(
-                    f"{tables[0]}: --{what} is said, and this is a problem text, which is read in one way alone; a "
-                    "table ends in .csv, .tsv, .xlsx or .geojson"
-                )
-        problem = _read_problem_text(tables[0])
-        for what, said, own in (
-            ("kind", options.kind, problem.kind),
-            ("source", options.source, problem.source),
-            ("sink", options.sink, problem.sink),
-        ):
-            if said not in (None, own):
-                raise TableFault(
-                    f"{tables[0]}: --{what} {said} is said, and the {what} of this text is {own or 'none'}"
-                )
-        problem.balance = options.balance
-        return problem if options.round is None else round_problem(problem, options.round)
+        return _read_text(tables[0], options)
     for what, name in (("--source", options.source), ("--sink", options.sink)):
         if options.kind == "max" and name is None:
             raise TableFault(f"a maximum flow wants {what} NODE")
@@ -453,6 +431,31 @@ def _read_source(options: argparse.Namespace) -> Problem:
         decimals=options.round,
         encoding=options.encoding,
     )
+
+
+def _read_text(name: str, options: argparse.Namespace) -> Problem:
+    """The problem of a text of the formats, as the options say. Raises TableFault where one has no meaning for it."""
+    for what, unused in (
+        ("columns", options.columns),
+        ("decimal", options.decimal),
+        ("default-cost", options.default_cost),
+        ("encoding", options.encoding),
+    ):
+        if unused not in (None, []):
+            raise TableFault(
+                f"{name}: --{what} is said, and this is a problem text, which is read in one way alone; a table ends in "
+                ".csv, .tsv, .xlsx or .geojson"
+            )
+    problem = _read_problem_text(name)
+    for what, said, own in (
+        ("kind", options.kind, problem.kind),
+        ("source", options.source, problem.source),
+        ("sink", options.sink, problem.sink),
+    ):
+        if said not in (None, own):
+            raise TableFault(f"{name}: --{what} {said} is said, and the {what} of this text is {own or 'none'}")
+    problem.balance = options.balance
+    return problem if options.round is None else round_problem(problem, options.round)
 
 
 def _read_problem_text(name: str) -> Problem:

@@ -98,8 +98,9 @@ def find_columns(
     """Which column holds which of the things `kinds`. Notes of what was chosen are added to the sheet.
 
     `chosen` are names of columns that were said, for a thing or for 'aside'. Columns of things that are `unused` are
-    left aside. `beside_plan` says that the other table is a plan that mcf-plan wrote. Raises TableFault where a column that looks like one that matters is not understood, and where two are
-    the same thing.
+    left aside. `beside_plan` says that the other table is a plan that mcf-plan wrote.
+    Raises TableFault where a column that looks like one that matters is not understood, and where two are the same
+    thing.
     """
     found = Found()
     told = _told(sheet, kinds, chosen)
@@ -109,25 +110,7 @@ def find_columns(
         own = _own_columns_of_nodes(sheet) if beside_plan else set()
     found.is_plan = bool(own)
     told.update(dict.fromkeys(own - told.keys(), "aside"))
-    aside = [place for place, what in told.items() if what == "aside"]
-    unknown: List[int] = []
-    matches: Dict[str, List[Tuple[int, Match]]] = {}
-    for place, header in enumerate(sheet.header):
-        said = told.get(place)
-        if said == "aside":
-            continue
-        if said in unused:
-            aside.append(place)
-            continue
-        match = match_of(header, kinds if said is None else [said])
-        if said is not None:
-            matches.setdefault(said, []).append((place, match or Match(said, None)))
-        elif match is None:
-            unknown.append(place)
-        elif match.what in told.values() or match.what in unused:
-            aside.append(place)
-        else:
-            matches.setdefault(match.what, []).append((place, match))
+    matches, unknown, aside = _matched(sheet, kinds, told, unused)
     if not matches and not (sheet.index and "node" in kinds):
         raise TableFault(
             f"{sheet.name}: no column is understood; the names of the columns come first, and here they are "
@@ -143,16 +126,46 @@ def find_columns(
             aside.append(place)
     compare_units({what: (unit, sheet, sheet.header[found.places[what]]) for what, unit in found.units.items()})
     if aside:
-        names = [repr(sheet.header[place]) for place in sorted(aside) if sheet.header[place]]
-        names += ["one without a name"] if len(names) < len(aside) else []
-        if len(aside) == 1:
-            what = f"the column {names[0]} is" if sheet.header[aside[0]] else "the column without a name is"
-        elif len(names) == 1:
-            what = "columns without a name are"
-        else:
-            what = f"the columns {', '.join(names[:-1])} and {names[-1]} are"
-        sheet.notes.append(f"{sheet.name}: {what} left aside")
+        _tell_aside(sheet, aside)
     return found
+
+
+def _matched(
+    sheet: Sheet, kinds: Sequence[str], told: Mapping[int, str], unused: Collection[str]
+) -> Tuple[Dict[str, List[Tuple[int, Match]]], List[int], List[int]]:
+    """The columns that match each thing, those that match nothing, and those that are left aside, by their places."""
+    matches: Dict[str, List[Tuple[int, Match]]] = {}
+    unknown: List[int] = []
+    aside: List[int] = []
+    for place, header in enumerate(sheet.header):
+        said = told.get(place)
+        if said == "aside" or said in unused:
+            aside.append(place)
+            continue
+        match = match_of(header, kinds if said is None else [said])
+        if said is not None:
+            matches.setdefault(said, []).append((place, match or Match(said, None)))
+        elif match is None:
+            unknown.append(place)
+        elif match.what in told.values() or match.what in unused:
+            aside.append(place)
+        else:
+            matches.setdefault(match.what, []).append((place, match))
+    return matches, unknown, aside
+
+
+def _tell_aside(sheet: Sheet, aside: Sequence[int]) -> None:
+    """Notes which columns are left aside."""
+    names = [repr(sheet.header[place]) for place in sorted(aside) if sheet.header[place]]
+    if len(names) < len(aside):
+        names.append("one without a name")
+    if len(aside) == 1:
+        what = f"the column {names[0]} is" if sheet.header[aside[0]] else "the column without a name is"
+    elif len(names) == 1:
+        what = "columns without a name are"
+    else:
+        what = f"the columns {', '.join(names[:-1])} and {names[-1]} are"
+    sheet.notes.append(f"{sheet.name}: {what} left aside")
 
 
 def _told(sheet: Sheet, kinds: Sequence[str], chosen: Mapping[str, Sequence[str]]) -> Dict[int, str]:
