@@ -725,6 +725,17 @@ class Command(unittest.TestCase):
                 _, errors = self.run_it(command, self.nodes, self.arcs, *rest, status=2)
                 self.assertIn(reason, errors)
 
+    def test_no_plan_and_a_circle_without_limit(self):
+        """Each command says that there is no plan."""
+        arcs = self.file("circle.csv", "from,to,capacity,cost\nKiel,Ulm,1,1\nRom,Bari,,-1\nBari,Rom,,0\n")
+        asked = ("sweep", self.nodes, arcs, "--cap", "#1", "--values", "1,2")
+        for words in (("plan", self.nodes, arcs), ("explain", self.nodes, arcs), ("ranges", self.nodes, arcs), asked):
+            with self.subTest(words[0]):
+                self.assertRegex(self.run_it(*words, status=1)[0], "[Nn]o plan")
+        out, _ = self.run_it("what-if", self.nodes, arcs, text="why\nwrite a.min\ncap 'Rom to Bari' 1\n", status=3)
+        self.assertIn("no plan: short by 4; `why` tells more\nwhat if> why\nThere is no plan", out)
+        self.assertIn("refused, nothing is changed: there is no cheapest plan: around the circle Rom to Bari", out)
+
     def test_names_of_tables_that_are_none(self):
         for words, status, reason in (
             (("plan", "", self.arcs), 2, "argument TABLE: the name of a file is empty"),

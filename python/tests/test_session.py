@@ -142,6 +142,32 @@ class Told(unittest.TestCase):
             self.assertEqual(session.cost, 0)
             self.assertEqual(session.plan(True).cost, session.problem.solve().cost)
 
+    def test_no_plan_and_a_circle_without_limit(self):
+        """As `solve` has it: where there is no plan at all, that is the answer, whatever a circle would save."""
+        problem = Problem()
+        problem.add_node("a", 2)
+        problem.add_node("b", -2)
+        problem.add_arc("c", "d", cost=-1)
+        problem.add_arc("d", "c")
+        self.assertEqual(problem.solve().shortage, 2)
+        with Session(problem) as session:
+            self.assertEqual((session.cost, session.shortage, session.plan(True).cut), (None, 2, {"a"}))
+            for of_text in (session.text, session.proof, lambda: session.add_arc("a", "b", cost=3)):
+                with self.assertRaisesRegex(Unbounded, "around the circle c to d, d to c no arc has a capacity"):
+                    of_text()
+            self.assertEqual((session.position, len(session.problem.arcs), session.shortage), (0, 2, 2))
+            self.assertIsNone(session.add_arc("a", "b", cap=1, cost=3))
+            self.assertEqual(session.shortage, 1)
+            self.assertIsNone(session.set_cap(0, 5))
+            self.assertEqual(session.set_cap(2, None), 1)
+            self.assertEqual((session.plan(True).cost, session.problem.solve().cost), (1, 1))
+            self.assertIn("p min", session.text())
+            self.assertEqual([session.undo(), session.shortage, session.undo(), session.shortage], [None, 1, None, 1])
+            self.assertRaises(Unbounded, session.text)
+            self.assertEqual([session.redo(), session.redo(), session.set_supply("a", 3)], [None, 1, None])
+            self.assertIsNone(session.set_cap(0, None))
+            self.assertEqual(session.shortage, session.problem.solve().shortage)
+
     def test_cheaper_arcs_without_limit(self):
         problem = Problem()
         problem.add_node("a", 1)

@@ -8,7 +8,7 @@ A session of the program that was interrupted is started again when it is wanted
 from __future__ import annotations
 
 from contextlib import contextmanager
-from dataclasses import dataclass, field
+from dataclasses import dataclass, field, replace
 from decimal import Decimal
 from typing import TYPE_CHECKING, Any, Dict, Iterator, List, NamedTuple, Optional, Tuple, Union
 
@@ -18,7 +18,7 @@ from .formats import MOST_ARCS, MOST_EDITS, REFUSALS
 from .plan import Infeasible, Plan
 from .problem import ZERO, Arc, ArcKey, Number, Problem, capacity, exact, plain
 from .program import Dialogue, Program
-from .rewrite import Change, DoesNotFit, Meaningless, Options, Rewriting, Surplus
+from .rewrite import Change, DoesNotFit, Meaningless, Options, Rewriting, Surplus, Unbounded
 
 if TYPE_CHECKING:
     from contextlib import AbstractContextManager
@@ -62,13 +62,18 @@ _TableChange = Union[_ArcChange, _SupplyChange]
 
 @dataclass(eq=False)
 class _Stretch:
-    """A part of the session that the program holds in one dialogue: its text, the steps since, and where it stands."""
+    """A part of the session that the program holds in one dialogue: its text, the steps since, and where it stands.
+
+    `unbounded` says that there would be no best plan if there were one at all: the text is without costs then, takes no
+    edit, and is not shown.
+    """
 
     text: str
     rewriting: Rewriting
     extra: int
     most_lines: int
     dialogue: Optional[Dialogue]
+    unbounded: Optional[Unbounded] = None
     steps: List[List[str]] = field(default_factory=list)
     position: int = 0
 
@@ -341,13 +346,24 @@ class Session:
         return result
 
     def text(self) -> str:
-        """The problem as it stands, as a text of the formats: `proof` is valid against it."""
-        return self._moments[self._now].stretch.rewriting.text
+        """The problem as it stands, as a text of the formats: `proof` is valid against it.
+
+        Raises Unbounded where no text has its meaning; it has no plan then.
+        """
+        return self._shown().rewriting.text
 
     def proof(self) -> str:
-        """The answer as it stands, with its potentials or as a cut, as `mcf check` reads it."""
+        """The answer as it stands, with its potentials or as a cut, as `mcf check` reads it. Raises as `text` does."""
+        self._shown()
         with Deadline(self.time_limit) as deadline:
             return self._proof(deadline)
+
+    def _shown(self) -> _Stretch:
+        """The stretch that stands, whose text has the meaning of the tables."""
+        stretch = self._moments[self._now].stretch
+        if stretch.unbounded is not None:
+            raise stretch.unbounded
+        return stretch
 
     def _proof(self, deadline: Deadline) -> str:
         self._not_in_group("the answer")
@@ -445,11 +461,13 @@ class Session:
     def _step_in_stretch(self, changes: List[_TableChange], deadline: Deadline) -> Optional[_Moment]:
         """The next moment in the stretch that stands; None where the changes do not fit in its text."""
         stretch = self._moments[self._now].stretch
+        if stretch.unbounded is not None:
+            return None
         rewriting = stretch.rewriting
         dialogue = stretch.open(self._program, deadline)
         try:
             change = rewriting.update(*self._touched(changes))
-        except DoesNotFit:
+        except (DoesNotFit, Unbounded):
             return None
         commands = change.commands
         if len(commands) > MOST_EDITS or len(rewriting.rows) > stretch.most_lines:
@@ -476,14 +494,22 @@ class Session:
             raise
 
     def _new_moment(self, changes: List[_TableChange], deadline: Deadline) -> _Moment:
-        """The next moment on a text of its own."""
-        rewriting = Rewriting(self._problem, self._options)
+        """The next moment on a text of its own. Raises Unbounded where there are plans, and none is best."""
+        unbounded: Optional[Unbounded] = None
+        try:
+            rewriting = Rewriting(self._problem, self._options)
+        except Unbounded as found:
+            unbounded = found
+            rewriting = Rewriting(self._problem, replace(self._options, without_costs=True))
         text = rewriting.text
         extra = max(0, min(ROOM_FOR_ARCS, MOST_ARCS - len(rewriting.rows)))
         dialogue = self._program.session(text, extra=extra, time_limit=deadline.left())
-        return self._moment_of(
-            dialogue.first, changes, _Stretch(text, rewriting, extra, len(rewriting.rows) + extra, dialogue)
-        )
+        stretch = _Stretch(text, rewriting, extra, len(rewriting.rows) + extra, dialogue, unbounded)
+        moment = self._moment_of(dialogue.first, changes, stretch)
+        if unbounded is not None and moment.shortage is None:
+            stretch.shut()
+            raise unbounded
+        return moment
 
     @staticmethod
     def _moment_of(
