@@ -137,6 +137,8 @@ class Building(unittest.TestCase):
         problem.add_node("a")
         with self.assertRaises(ValueError):
             problem.add_node("a")
+        with self.assertRaisesRegex(ValueError, "the capacity of a to b is -1, below 0"):
+            problem.add_arc("a", "b", cap=-1)
         with self.assertRaisesRegex(ValueError, "above its capacity, 1"):
             problem.add_arc("a", "b", low=2, cap=1)
         self.assertEqual((list(problem.nodes), problem.arcs), (["a"], []))

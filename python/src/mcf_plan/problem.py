@@ -230,6 +230,8 @@ class Problem:
         most = capacity(cap, f"the capacity of {label}")
         if most is None and self.kind == "asn":
             most = ONE
+        if most is not None and most < 0 == least:
+            raise ValueError(f"the capacity of {label} is {plain(most)}, below 0")
         if most is not None and least > most:
             raise ValueError(f"the lower bound of {label} is {plain(least)}, and above its capacity, {plain(most)}")
         return Arc(tail, head, least, most, exact(cost, f"the cost of {label}"), name)

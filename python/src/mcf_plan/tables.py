@@ -85,7 +85,7 @@ def read_tables(
         for name in ends:
             if name not in problem.nodes and folded(name) in SUMS and name in tails:
                 raise arc_table.fault(tails.index(name), "from", ROW_OF_SUMS)
-    _add_ends(problem, ends, node_sheet)
+    _add_ends(problem, ends, node_sheet, arc_sheet)
     _read_arcs(problem, arc_table, tails, heads)
     if node_sheet is not None:
         _tell_unplaced(problem, node_sheet)
@@ -243,8 +243,8 @@ def _check_signs(table: Table, supplies: Sequence[Decimal]) -> None:
                 )
 
 
-def _add_ends(problem: Problem, ends: Iterable[str], nodes: Optional[Sheet]) -> None:
-    """Adds the nodes that the table of arcs alone has."""
+def _add_ends(problem: Problem, ends: Iterable[str], nodes: Optional[Sheet], arcs: Sheet) -> None:
+    """Adds the nodes that the table of arcs alone has. Notes those that may be one, written in two ways."""
     alone = [end for end in ends if end not in problem.nodes]
     listed = {_alike(name): name for name in problem.nodes} if alone else {}
     for end in alone:
@@ -255,6 +255,11 @@ def _add_ends(problem: Problem, ends: Iterable[str], nodes: Optional[Sheet]) -> 
                 "alike; if they are two, list both in the table of nodes"
             )
         problem.nodes[end] = ZERO
+    written: Dict[str, str] = {}
+    twins = [(other, end) for end in alone for other in [written.setdefault(_folded_name(end), end)] if other != end]
+    if twins:
+        more = f" (and {len(twins) - 1} more)" if len(twins) > 1 else ""
+        arcs.notes.append(f"{arcs.name}: the nodes {twins[0][0]!r} and {twins[0][1]!r} count as two{more}")
     if nodes is not None and problem.kind != "asn" and alone:
         stand, supply = ("stands", "supplies") if len(alone) == 1 else ("stand", "supply")
         count = counted(len(alone), "node")
@@ -284,8 +289,17 @@ def _alike(name: str) -> str:
     >>> _alike("Lager_01") == _alike("lager 1"), _alike("01067.0") == _alike("1067"), _alike("A 10") == _alike("A 1")
     (True, True, False)
     """
+    return re.sub(r"\W+", " ", _folded_name(name)).strip() or name
+
+
+def _folded_name(name: str) -> str:
+    """The same, with the marks that it has but for `_`.
+
+    >>> _folded_name("Lager_01") == _folded_name("lager 1"), _folded_name("C+") == _folded_name("C-")
+    (True, False)
+    """
     text = re.sub(r"(?<![\d.])0+(?=\d)", "", unicodedata.normalize("NFKC", name).casefold())
-    return re.sub(r"[\W_]+", " ", re.sub(r"^(\d+)\.0+$", r"\1", text)).strip() or name
+    return re.sub(r"[\s_]+", " ", re.sub(r"^(\d+)\.0+$", r"\1", text))
 
 
 def _read_arcs(problem: Problem, table: Table, tails: Sequence[str], heads: Sequence[str]) -> None:
