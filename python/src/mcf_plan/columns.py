@@ -435,20 +435,26 @@ def distance(one: str, other: str) -> int:
     return row[-1]
 
 
-def compare_units(units: Mapping[str, Tuple[Unit, Sheet, str]]) -> None:
-    """Raises TableFault where amounts have different units, or costs are for another unit than that of the amounts."""
+def compare_units(units: Mapping[str, Tuple[Unit, Sheet, str]], *, are_all: bool = False) -> None:
+    """Raises TableFault where amounts have different units, or costs are for another unit than that of the amounts; where
+    `are_all` the units there are, also where costs are for many units and the amounts have no unit."""
     amounts = [(what, *units[what]) for what in ("supply", "demand", "low", "capacity") if what in units]
     for (_, unit, sheet, header), (_, other, their_sheet, theirs) in zip(amounts, amounts[1:]):
         if not unit.agrees(other):
             raise TableFault(
-                f"{sheet.name}, column {header!r}, is in {unit.text}, and {their_sheet.name}, column {theirs!r}, in "
-                f"{other.text}: bring all amounts to one unit"
+                f"{sheet.name}, column {header!r}, is {unit.told}, and {their_sheet.name}, column {theirs!r}, "
+                f"{other.told}: bring all amounts to one unit"
             )
     if "cost" in units:
         unit, sheet, header = units["cost"]
+        if are_all and not amounts and unit.is_of_many:
+            raise TableFault(
+                f"{sheet.name}, column {header!r}, is {unit.told}, and no amount has a unit: bring costs and amounts to "
+                "one unit"
+            )
         for _, other, their_sheet, theirs in amounts:
             if not unit.is_per(other):
                 raise TableFault(
-                    f"{sheet.name}, column {header!r}, is in {unit.text}, and {their_sheet.name}, column {theirs!r}, "
-                    f"in {other.text}: bring costs and amounts to one unit"
+                    f"{sheet.name}, column {header!r}, is {unit.told}, and {their_sheet.name}, column {theirs!r}, "
+                    f"{other.told}: bring costs and amounts to one unit"
                 )

@@ -67,6 +67,11 @@ class Unit(NamedTuple):
         """Whether two amounts may be in one unit: they count the same, and in the same time where both name one."""
         return self.base == other.base and (not self.time or not other.time or self.time == other.time)
 
+    @property
+    def is_of_many(self) -> bool:
+        """Whether a cost is for a number of units together, as 1000."""
+        return any(name not in _SAME for name in self.per)
+
     def is_per(self, amount: Unit) -> bool:
         """Whether a cost may be for one unit of this amount."""
         return not self.per or self.per == frozenset((amount.base,))
@@ -78,6 +83,8 @@ def unit_of(text: str) -> Optional[Unit]:
 
     >>> unit_of("EUR/t").per, unit_of("in t per week").time, unit_of("fixed"), unit_of("EUR/km")
     (frozenset({'t'}), 'week', None, None)
+    >>> unit_of("EUR per 100 kg").per
+    frozenset({'100kg'})
     """
     bare = unicodedata.normalize("NFKD", text.casefold())
     bare = "".join(c for c in bare if not unicodedata.combining(c)).replace("₂", "2")
@@ -87,13 +94,15 @@ def unit_of(text: str) -> Optional[Unit]:
     if not words:
         return None
     base, time, per = "", "", []
-    scale = ""
+    scale = of_per = ""
     is_behind = False
     for word in words:
         digits = re.fullmatch(r"(\d+)?(.*)", word)
         assert digits is not None
         if word == "/" or word in _BETWEEN:
             is_behind = True
+        elif word in _NUMBERS and is_behind:
+            of_per = "" if word == "1" else word
         elif word in _NUMBERS and not base:
             scale = word
         elif word in _COINS or word in ("k€", "t€", "keur", "teur"):
@@ -104,19 +113,18 @@ def unit_of(text: str) -> Optional[Unit]:
             time = _TIMES[word]
         elif (digits[2] if digits[1] else word) in _AMOUNTS:
             name = (digits[1] or "") + _AMOUNTS[digits[2] if digits[1] else word]
-            if base and is_behind:
-                per.append(name)
-            elif base or is_behind and not per and base:
+            if is_behind:
+                per.append(of_per + name)
+                of_per = ""
+            elif base:
                 return None
-            elif is_behind:
-                per.append(name)
             else:
                 base = name
         elif word in ("daily", "weekly", "monthly", "yearly"):
             time = _TIMES[word]
         else:
             return None
-    if not base and not per and not time:
+    if of_per or not base and not per and not time:
         return None
     text = re.sub(r"^(in|en)\s+", "", text.strip(" _-.:"), flags=re.IGNORECASE)
     return Unit(text, scale + base, frozenset(per), time)

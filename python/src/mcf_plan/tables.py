@@ -78,13 +78,13 @@ def read_tables(
         found = find_columns(node_sheet, NODE_COLUMNS, reading.columns, beside_plan=is_plan)
         node_table = Table(node_sheet, found, reading)
         _find_names(node_table, ends)
-        compare_units({**_units(node_table), **_units(arc_table)})
         node_table.look_at(arc_table)
         arc_table.look_at(node_table)
         _read_nodes(problem, node_table, ends)
         for name in ends:
             if name not in problem.nodes and folded(name) in SUMS and name in tails:
                 raise arc_table.fault(tails.index(name), "from", ROW_OF_SUMS)
+    compare_units({**({} if node_table is None else _units(node_table)), **_units(arc_table)}, are_all=True)
     _add_ends(problem, ends, node_sheet, arc_sheet)
     _read_arcs(problem, arc_table, tails, heads)
     if node_sheet is not None:
