@@ -241,6 +241,8 @@ def match_of(header: str, kinds: Sequence[str]) -> Optional[Match]:
             for what in words.get(folded(base), ()):
                 unit = unit_of(behind) if what in kinds and what not in LABELS and what != "node" else None
                 if unit is not None:
+                    unit = unit.of_cost(is_named=not stands_in) if what == "cost" else unit.of_amount()
+                if unit is not None:
                     return Match(what, unit, stands_in)
     return None
 

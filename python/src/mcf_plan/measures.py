@@ -67,6 +67,19 @@ class Unit(NamedTuple):
         """Whether two amounts may be in one unit: they count the same, and in the same time where both name one."""
         return self.base == other.base and (not self.time or not other.time or self.time == other.time)
 
+    def of_amount(self) -> Optional[Unit]:
+        """The unit as that of an amount; None where it is none, as what fits in a truck is no amount of an arc."""
+        return None if self.per else self
+
+    def of_cost(self, *, is_named: bool) -> Optional[Unit]:
+        """The unit as that of a cost; None where it is none, as of a rate in tonnes a day. Where a column `is_named` a
+        cost, a unit of amounts is what it is for: `cost_t` is one for each tonne."""
+        if self.base not in _SAME:
+            return self
+        if self.per or self.time or not is_named:
+            return None
+        return Unit(f"per {self.text}", "", frozenset((self.base,)), "")
+
     @property
     def is_of_many(self) -> bool:
         """Whether a cost is for a number of units together, as 1000."""
