@@ -877,6 +877,16 @@ class Maps(InFolder):
                 "feature 3: it has no geometry, and a road is a LineString",
             ),
             (
+                "a road without a geometry from 0",
+                [kiel, berlin, {**area, "geometry": None, "properties": {"from": 0, "to": "Berlin", **road}}],
+                "feature 3: it has no geometry, and a road is a LineString",
+            ),
+            (
+                "an area that supplies nothing",
+                [kiel, berlin, line(*ends, **road), {**area, "properties": {"supply": 0, "from": None}}],
+                "cost 12.5",
+            ),
+            (
                 "an area with other words",
                 [kiel, berlin, line(*ends, **road), {**area, "properties": {"name": "Hesse", "source": "OSM"}}],
                 "1 of its features is a Polygon, and left aside",

@@ -73,8 +73,12 @@ def read_map(path: Path) -> Tuple[Optional[Sheet], Optional[Sheet]]:
 
 def _check_unused(place: str, kind: Any, properties: Dict[str, Any]) -> None:
     """Raises TableFault where a feature that is neither a point nor a line says what a place or a road does."""
-    matches = [match_of(key, ["supply", "demand", "from", "to"]) for key, value in properties.items() if value]
-    said = {match.what for match in matches if match is not None}
+    said = set()
+    for key, value in properties.items():
+        match = match_of(key, ["supply", "demand", "from", "to"])
+        # A supply of 0 is none, and a node may be called 0.
+        if match is not None and (value or value == 0 and match.what in ("from", "to")):
+            said.add(match.what)
     if said & {"supply", "demand"} or said >= {"from", "to"}:
         what = "it has no geometry" if kind is None else f"its geometry is a {kind}"
         needed = "a place is a Point" if said & {"supply", "demand"} else "a road is a LineString"
