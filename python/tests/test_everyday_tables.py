@@ -9,6 +9,7 @@ import re
 import shlex
 import sys
 import tempfile
+import tracemalloc
 import unittest
 import zipfile
 from decimal import Decimal
@@ -16,6 +17,7 @@ from fractions import Fraction
 from pathlib import Path
 
 from mcf_plan.cli import main
+from mcf_plan.geojson import read_map
 from mcf_plan.tables import TableFault, read_tables
 from mcf_plan.workbook import write_sheet
 
@@ -906,6 +908,18 @@ class Maps(InFolder):
                 status, out, errors = run("map.geojson")
                 self.assertRegex(out + errors, wanted)
                 self.assertEqual(status, 0 if "cost 12.5" in out else 3)
+
+    def test_a_map_of_many_properties(self):
+        """Each feature has its own, as those of OpenStreetMap have: what it lacks takes no room."""
+        ends = [10.1, 54.3], [13.4, 52.5]
+        roads = [line(*ends, **self.ROAD, **{f"tag{number}": "yes"}) for number in range(1000)]
+        text = json.dumps({"type": "FeatureCollection", "features": [self.KIEL, self.BERLIN, *roads]})
+        Path("map.geojson").write_text(text)
+        tracemalloc.start()
+        self.addCleanup(tracemalloc.stop)
+        _, lines = read_map(Path("map.geojson"))
+        self.assertEqual((len(lines.header), len(lines.lines)), (1004, 1000))
+        self.assertLess(tracemalloc.get_traced_memory()[1], 25_000_000)
 
     def test_what_is_no_map(self):
         for text, wanted in (

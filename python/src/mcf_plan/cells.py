@@ -35,6 +35,12 @@ class Merged(NamedTuple):
     area: str
 
 
+class Lacking(str):
+    """The empty cell of a feature of a map that has not this property; one that is null is an empty text."""
+
+
+LACKING = Lacking()
+
 ERROR = re.compile(r"#(N/?[AVD]|\S*[!?])|#{2,}|Err:\d+|#¿.*\?")
 """Errors of spreadsheets in the languages that they are written in: #N/A, #NV, #REF!, #¡VALOR!, #NAME?, Err:502."""
 

@@ -8,8 +8,9 @@ from __future__ import annotations
 
 import re
 import unicodedata
+from contextlib import suppress
 from dataclasses import dataclass, field
-from typing import Collection, Dict, List, Mapping, NamedTuple, Optional, Sequence, Set, Tuple
+from typing import Any, Collection, Dict, Iterable, List, Mapping, NamedTuple, Optional, Sequence, Set, Tuple
 
 from .cells import NO_LIMIT, Merged, TableFault, is_empty
 from .measures import Unit, is_amount, unit_of
@@ -314,8 +315,11 @@ def _is_left_aside(sheet: Sheet, place: int, kinds: Sequence[str], taken: Collec
     """Whether a column that matches nothing is to be told as left aside; False where it is empty. Raises TableFault
     where it looks like one that matters."""
     header = sheet.header[place]
-    held = (str(cell) for cell in sheet.columns[place] if not isinstance(cell, Merged))
-    cells = {cell for cell in held if not is_empty(cell)} - {"nan", "None", "<NA>", "NaT"}
+    held: Iterable[Any] = sheet.columns[place]
+    with suppress(TypeError):
+        held = set(held)  # Most columns repeat their cells.
+    texts = (str(cell) for cell in held if not isinstance(cell, Merged))
+    cells = {cell for cell in texts if not is_empty(cell)} - {"nan", "None", "<NA>", "NaT"}
     name = folded(header)
     if not name or name in HARMLESS:
         return bool(cells)

@@ -7,7 +7,7 @@ from decimal import Decimal
 from pathlib import Path
 from typing import Any, Dict, List, NamedTuple, Optional, Sequence, Tuple
 
-from .cells import CellFault, TableFault, name_of
+from .cells import LACKING, CellFault, TableFault, name_of
 from .columns import folded, match_of
 from .sheets import Sheet
 
@@ -132,24 +132,17 @@ def _positions(place: str, kind: str, coordinates: Any) -> List[Point]:
 
 def _sheet(name: str, features: Sequence[_Feature], *, is_points: bool) -> Sheet:
     """The sheet of the features' properties; points have x and y of their position."""
-    header: List[str] = []
-    for feature in features:
-        header += [key for key in feature.properties if key not in header]
-    columns: List[Sequence[Any]] = [[_cell(feature.properties.get(key)) for feature in features] for key in header]
-    missing = {}
-    for row, feature in enumerate(features):
-        lacking = frozenset(place for place, key in enumerate(header) if key not in feature.properties)
-        if lacking:
-            missing[row] = lacking
+    header = list(dict.fromkeys(key for feature in features for key in feature.properties))
     if is_points:
-        kept = [place for place, key in enumerate(header) if match_of(key, ["x", "y"]) is None]
-        places = {old: new for new, old in enumerate(kept)}
-        header, columns = [header[place] for place in kept], [columns[place] for place in kept]
-        missing = {row: frozenset(places[p] for p in lacking if p in places) for row, lacking in missing.items()}
+        header = [key for key in header if match_of(key, ["x", "y"]) is None]
+    columns: List[Sequence[Any]] = [
+        [_cell(feature.properties.get(key, LACKING)) for feature in features] for key in header
+    ]
+    if is_points:
         header += ["x", "y"]
         columns += [[feature.first[0] for feature in features], [feature.first[1] for feature in features]]
     what = "points" if is_points else "lines"
-    return Sheet(f"{name}, {what}", header, columns, [feature.number for feature in features], "feature", "", missing)
+    return Sheet(f"{name}, {what}", header, columns, [feature.number for feature in features], "feature")
 
 
 def _cell(value: Any) -> Any:
@@ -184,8 +177,6 @@ def _add_ends(arcs: Sheet, lines: Sequence[_Feature], points: Sequence[_Feature]
                 )
             cells[row] = names[end]
         arcs.columns[places[what]] = cells
-    for row in arcs.missing.keys() & set(bare):
-        arcs.missing[row] -= frozenset(places.values())
     which = "each line" if len(bare) == len(lines) else "each line without 'from' and 'to'"
     arcs.notes.append(f"{arcs.name}: {which} leads from the point where it begins to the point where it ends")
 

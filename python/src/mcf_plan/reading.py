@@ -2,11 +2,13 @@
 
 from __future__ import annotations
 
+import itertools
 from dataclasses import dataclass, field
 from decimal import Decimal
 from typing import Dict, Iterable, List, Mapping, Optional, Sequence, Tuple, Union
 
 from .cells import (
+    LACKING,
     MISSING,
     CellFault,
     Coordinates,
@@ -27,12 +29,15 @@ from .vocabulary import COLUMNS, DITTO
 
 PLACES = ("x", "y")
 
-LACKING = {
+OPTIONAL = ("supply", "demand", "low", "name")
+"""The properties that a feature of a map may lack."""
+
+HINTS = {
     **dict.fromkeys(("from", "to"), "; a line has both of 'from' and 'to', or neither"),
     "capacity": "; null is no limit",
     "cost": "; `--default-cost 0` takes 0 where there is none",
 }
-"""What to do about a property that a feature of a map lacks."""
+"""What to do about another property that a feature lacks."""
 
 
 @dataclass(frozen=True)
@@ -105,26 +110,34 @@ class Table:
     def _check_short_rows(self) -> None:
         """Raises TableFault where a row has not all the cells that count."""
         sheet = self.sheet
-        by_place = {place: what for what, place in self.found.places.items()}
+        if sheet.word == "feature":
+            self._check_properties()
+        of_use = set(self.found.places.values())
+        if self.reading.default_cost is not None:
+            of_use.discard(self.found.places.get("cost", -1))
         for row, places in sheet.missing.items():
-            lacking = {by_place[place] for place in places if place in by_place}
-            if sheet.word == "feature":
-                lacking -= {"supply", "demand", "low", "name"}
-            if self.reading.default_cost is not None:
-                lacking.discard("cost")
-            if not lacking:
+            if of_use.isdisjoint(places):
                 continue
-            if sheet.word == "feature":
-                what = next(what for what in by_place.values() if what in lacking)
-                header = sheet.header[self.found.places[what]]
-                hint = LACKING.get(what, "")
-                raise TableFault(f"{sheet.name}, {sheet.place(row)}: it has no property {header!r}{hint}")
             width = len(sheet.header)
             raise TableFault(
                 f"{sheet.name}, {sheet.place(row)}: {width - len(places)} "
                 f"field{' stands' if width - len(places) == 1 else 's stand'} under {width} columns; an empty field "
                 "needs its separator too"
             )
+
+    def _check_properties(self) -> None:
+        """Raises TableFault where a feature of a map has not all the properties that count."""
+        sheet = self.sheet
+        lacking: List[Tuple[int, str]] = []
+        for what, place in self.found.places.items():
+            if what in OPTIONAL or what == "cost" and self.reading.default_cost is not None:
+                continue
+            rows = (row for row, cell in enumerate(sheet.columns[place]) if cell is LACKING)
+            lacking += [(row, what) for row in itertools.islice(rows, 1)]
+        if lacking:
+            row, what = min(lacking, key=lambda pair: pair[0])
+            header, hint = sheet.header[self.found.places[what]], HINTS.get(what, "")
+            raise TableFault(f"{sheet.name}, {sheet.place(row)}: it has no property {header!r}{hint}")
 
     # ------------------------------------------------------------ names
 
