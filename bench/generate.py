@@ -284,7 +284,114 @@ def turned(shape):
     return lines
 
 
-# What users have, and what hurts: many searches that each push little, long walks, dead ends.
+def project(draw, nodes, arcs):
+    """A project to be shortened: each activity gains by its length as a normal one, and has no limit at its shortest. One arc
+    leads back, from the end to the start: a day late costs a penalty."""
+    problem = MinProblem(nodes)
+    followers = max(1, (arcs - 1) // (2 * nodes))
+    for node in range(1, nodes):
+        for k in range(followers):
+            head = min(nodes, node + (draw.randint(1, 300) if k else 1))
+            normal = draw.randint(1, 1_000)
+            problem.add(node, head, 0, draw.randint(1, 1_000), -normal)
+            problem.add(node, head, 0, 100_000_000, -draw.randint(0, normal))
+    problem.add(nodes, 1, 0, 1, nodes * 2)
+    return problem.lines()
+
+
+def over_time(problem, places, periods, cost, room=100_000_000):
+    """The arcs by which each place waits from period to period, at a cost; its node in each period follows the one before."""
+    for place in range(places):
+        for period in range(1, periods):
+            node = place * periods + period
+            problem.add(node, node + 1, 0, room, cost)
+
+
+def periods_of(nodes, places):
+    """How many periods so many places have, that the nodes suffice."""
+    return max(2, (nodes - 1) // places)
+
+
+def journeys(draw, nodes, arcs, back=5, fleet=500):
+    """Vehicles at 20 places over time: trips gain, waiting costs little, and at the end each goes back to the first day."""
+    periods = periods_of(nodes, 20)
+    problem = MinProblem(20 * periods)
+    over_time(problem, 20, periods, 5, 20)
+    for place in range(20):
+        problem.add((place + 1) * periods, place * periods + 1, 0, back, fleet)
+    while len(problem.arcs) < arcs:
+        tail = draw.randrange(20) * periods + draw.randint(1, periods - 1)
+        later = draw.randint(1, min(50, periods - (tail - 1) % periods - 1))
+        head = draw.randrange(20) * periods + (tail - 1) % periods + 1 + later
+        problem.add(tail, head, 0, draw.randint(1, 100), -draw.randint(1, 10))
+    return problem.lines()
+
+
+def flights(draw, nodes, arcs):
+    """The same with vehicles that are dear, and as many as one likes to own."""
+    return journeys(draw, nodes, arcs, 100_000_000, 1_000)
+
+
+def cash(draw, nodes, arcs):
+    """Cash in ten accounts over time: kept, borrowed back in time at a cost, laid out for some terms at a gain."""
+    periods = periods_of(nodes, 10)
+    problem = MinProblem(10 * periods)
+    over_time(problem, 10, periods, 0)
+    for place in range(10):
+        for period in range(1, periods):
+            node = place * periods + period
+            problem.ship(*draw.sample((node, 10 * periods - place), 2), draw.randint(0, 10_000))
+            problem.add(node + 1, node, 0, 100_000_000, draw.randint(5, 15))
+    for place in range(1, 10):
+        problem.add(periods, (place + 1) * periods, 0, 100_000_000, 1)
+        problem.add((place + 1) * periods, periods, 0, 100_000_000, 1)
+    while len(problem.arcs) < arcs:
+        tail = draw.randint(1, 10 * periods)
+        left = periods - (tail - 1) % periods - 1
+        term = draw.choice((2, 5, 10, 30, 90))
+        if term <= left:
+            problem.add(tail, tail + term, 0, draw.randint(1, 1_000), -draw.randint(0, 2 * term))
+        elif left == 0:
+            problem.add(tail, (tail + periods - 1) % (10 * periods) + 1, 0, 1_000, draw.randint(1, 5))
+    return problem.lines()
+
+
+def lots(draw, nodes, _arcs):
+    """Five goods made over time, with limits on making and keeping; a unit is late at a cost, or bought at a high one."""
+    periods = periods_of(nodes, 5)
+    problem = MinProblem(5 * periods + 1)
+    source = 5 * periods + 1
+    over_time(problem, 5, periods, 1, 1_000)
+    for good in range(5):
+        problem.add(source, good * periods + 1, 0, 100_000_000, 1_000_000)
+        for period in range(1, periods + 1):
+            node = good * periods + period
+            problem.ship(source, node, draw.randint(0, 160))
+            problem.add(source, node, 0, 100, draw.randint(50, 200))
+            if period < periods:
+                problem.add(node + 1, node, 0, 100_000_000, 1)
+    return problem.lines()
+
+
+def pipelines(draw, nodes, _arcs):
+    """Lines of 100 nodes that branch off others, with some loops; few sources, a tap at each node, and dear deliveries by road."""
+    problem = MinProblem(nodes + 1)
+    links = [(node - 1 if node % 100 else draw.randint(1, node - 1), node) for node in range(2, nodes + 1)]
+    links += [draw.sample(range(1, nodes + 1), 2) for _ in range(nodes // 10)]
+    for tail, head in links:
+        room, cost = draw.randint(100_000, 1_000_000), draw.randint(1, 1_000)
+        problem.add(tail, head, 0, room, cost)
+        problem.add(head, tail, 0, room, cost)
+    sources = [1] + draw.sample(range(2, nodes + 1), 19)
+    for source in sources:
+        problem.add(source, nodes + 1, 0, 100_000_000, 100_000)
+    for tap in range(2, nodes + 1):
+        problem.ship(draw.choice(sources), tap, draw.randint(1, max(1, 32_000_000 // nodes)))
+        problem.add(nodes + 1, tap, 0, 100_000_000, 100_000)
+    return problem.lines()
+
+
+# What users have, what planners have over long times and lines, and what hurts: many searches that each push little, long walks, dead ends.
 SETS = {
     "usual": {
         "transport": transport,
@@ -292,6 +399,14 @@ SETS = {
         "planning": planning,
         "layered": layered,
         "assignment": assignment,
+    },
+    "long": {
+        "project": project,
+        "journeys": journeys,
+        "flights": flights,
+        "cash": cash,
+        "lots": lots,
+        "pipelines": pipelines,
     },
     "hostile": {
         "parallel": parallel,
