@@ -391,7 +391,8 @@ def pipelines(draw, nodes, _arcs):
     return problem.lines()
 
 
-# What users have, what planners have over long times and lines, and what hurts: many searches that each push little, long walks, dead ends.
+# What users have, what planners have over long times and lines, and what hurts: many searches that each push little,
+# long walks, dead ends.
 SETS = {
     "usual": {
         "transport": transport,
