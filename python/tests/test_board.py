@@ -15,7 +15,7 @@ from decimal import Decimal
 from pathlib import Path
 from unittest import mock
 
-from mcf_plan import Problem, Session, Unbounded
+from mcf_plan import Disagreement, Problem, Session
 from mcf_plan.board.server import MOST_BYTES, Board, BoardServer
 
 
@@ -411,8 +411,7 @@ class ServerTest(unittest.TestCase):
     def test_exports_want_the_key(self) -> None:
         get = {name: self.own[name] for name in ("Host", "X-Board-Key")}
         self.assertEqual(self.request("GET", "/export/plan.csv", **get)[0], 200)
-        unbounded = Unbounded("there is no cheapest plan", [0])
-        with mock.patch.object(self.server.board.session, "text", side_effect=unbounded):
+        with mock.patch.object(self.server.board.session, "text", side_effect=Disagreement("the cost is another")):
             self.assertEqual(self.request("GET", "/export/problem.txt", **get)[0], 409)
         self.assertEqual(self.request("GET", "/export/plan.csv", Host=get["Host"])[0], 403)
         self.assertEqual(self.request("GET", "/export/plan.csv", **get, Origin="http://elsewhere.example")[0], 403)

@@ -278,6 +278,34 @@ class Command(unittest.TestCase):
         )
         self.assertTrue(done.stdout.startswith("s 11500\n"), done.stdout)
 
+    def test_convert_where_there_is_no_plan_and_a_circle_saves(self):
+        """As in `plan`, that there is no plan is the answer, and the text has it; where there are plans, none is best."""
+        circle = "from,to,capacity,cost\nb,a,,-3\na,b,,2\n"
+        for kind, arcs in (("min", circle + "c,d,1,5\n"), ("max", "from,to,low,capacity\na,b,,\nb,a,,\nc,d,1,2\n")):
+            with self.subTest(kind):
+                nodes = self.file("nodes.csv", "town,supply\na,0\nb,0\nc,2\nd,-2\n")
+                tables = ([nodes] if kind == "min" else []) + [self.file("arcs.csv", arcs)]
+                options = ["--kind", "max", "--source", "a", "--sink", "b"] if kind == "max" else []
+                self.assertIn("There is no plan", self.run_it("plan", *tables, *options, status=1)[0])
+                _, errors = self.run_it("convert", *tables, *options, "-o", "text")
+                self.assertIn("note: there is no plan, by this text too; if there were plans, none would be best: ", errors)
+                self.assertIn("a capacity: 1000000000 is written there, with more there would be no plan either", errors)
+                text = self.folder.name + "/text"
+                answer = subprocess.run([os.environ["MCF"], "solve", text], capture_output=True, text=True, check=False)
+                self.assertEqual((answer.returncode, answer.stdout[:2]), (1, "i "), answer)
+                explained = self.file("answer", answer.stdout)
+                self.assertIn(
+                    "There is no plan", self.run_it("explain", *tables, *options, "--answer", explained, status=1)[0]
+                )
+                wrote = self.run_it("what-if", *tables, *options, text="write again\nproof shown\n")[0]
+                self.assertIn("written to again", wrote)
+                checked = self.run_it("check", "again", "shown")[0]
+                self.assertEqual(checked, "valid\n")
+        arcs = self.file("arcs.csv", circle + "c,d,2,5\n")
+        for command in ("plan", "convert", "explain", "ranges", "what-if"):
+            _, errors = self.run_it(command, nodes, arcs, status=6)
+            self.assertIn("there is no cheapest plan: around the circle", errors)
+
     def test_faults(self):
         out, _ = self.run_it("faults", self.file("a.min", "p min 2 1\na 1 2 0 5,5 3\n"), status=3)
         self.assertIn("a.min, line 2, CAP: '5,5' stands where", out)

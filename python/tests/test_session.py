@@ -152,9 +152,14 @@ class Told(unittest.TestCase):
         self.assertEqual(problem.solve().shortage, 2)
         with Session(problem) as session:
             self.assertEqual((session.cost, session.shortage, session.plan(True).cut), (None, 2, {"a"}))
-            for of_text in (session.text, session.proof, lambda: session.add_arc("a", "b", cost=3)):
-                with self.assertRaisesRegex(Unbounded, "around the circle c to d, d to c no arc has a capacity"):
-                    of_text()
+            with self.assertRaisesRegex(Unbounded, "around the circle c to d, d to c no arc has a capacity"):
+                session.add_arc("a", "b", cost=3)
+            program = Program()
+            self.assertIn("a 3 4 0 1000000000 -1\n", session.text())
+            self.assertEqual(program.check(session.text(), session.proof()), "valid")
+            self.assertEqual(program.check(session.text(), program.solve(session.text())), "valid")
+            with self.assertRaisesRegex(EditRefused, "the text has to wait for its end"), session.group():
+                session.text()
             self.assertEqual((session.position, len(session.problem.arcs), session.shortage), (0, 2, 2))
             self.assertIsNone(session.add_arc("a", "b", cap=1, cost=3))
             self.assertEqual(session.shortage, 1)
@@ -163,7 +168,7 @@ class Told(unittest.TestCase):
             self.assertEqual((session.plan(True).cost, session.problem.solve().cost), (1, 1))
             self.assertIn("p min", session.text())
             self.assertEqual([session.undo(), session.shortage, session.undo(), session.shortage], [None, 1, None, 1])
-            self.assertRaises(Unbounded, session.text)
+            self.assertIn("a 3 4 0 1000000000 -1\n", session.text())
             self.assertEqual([session.redo(), session.redo(), session.set_supply("a", 3)], [None, 1, None])
             self.assertIsNone(session.set_cap(0, None))
             self.assertEqual(session.shortage, session.problem.solve().shortage)

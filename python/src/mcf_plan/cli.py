@@ -30,7 +30,7 @@ from .problem import Problem, exact, plain
 from .program import Program, ProgramFailed, Refused, TimeLimit
 from .progress import Progress
 from .questions import add_ranges, add_sweep, file_named, joined_values, run_ranges, run_sweep
-from .rewrite import BeyondLimits, CannotRewrite, Options, Surplus, Unbounded, rewrite, solve
+from .rewrite import BeyondLimits, CannotRewrite, Options, Surplus, Unbounded, rewrite_any, solve
 from .rounding import MOST_DECIMALS, round_problem
 from .session import EditRefused, Session
 from .sheets import is_table
@@ -512,7 +512,7 @@ def _plan(options: argparse.Namespace) -> int:
 def _explain(options: argparse.Namespace) -> int:
     problem = _read(options)
     if options.answer:
-        rewriting = rewrite(problem, Options(options.surplus))
+        rewriting = rewrite_any(problem, Options(options.surplus))
         answer = sys.stdin.buffer.read() if options.answer == "-" else Path(options.answer).read_bytes()
         try:
             result = rewriting.checked(as_str(answer), Program())
@@ -604,7 +604,7 @@ def _convert(options: argparse.Namespace) -> int:
         check_kept(options.output, options.tables, is_problem=True)
     problem = _read_source(options)
     _tell_notes(problem.notes)
-    rewriting = rewrite(problem, Options(options.surplus))
+    rewriting = rewrite_any(problem, Options(options.surplus))
     _tell_notes(rewriting.notes)
     lift_alarm()
     if options.output:

@@ -2,6 +2,7 @@
 
 from __future__ import annotations
 
+from dataclasses import replace
 from decimal import Decimal
 from typing import Optional, Tuple
 
@@ -61,6 +62,10 @@ class Figures:
     def anew(self) -> Figures:
         """The numbers of the problem as it stands now, in the same units."""
         return Figures(self.problem, self.options, self.amounts, self.money)
+
+    def without_costs(self) -> Figures:
+        """The same amounts, and all costs 0."""
+        return Figures(self.problem, replace(self.options, without_costs=True), self.amounts, Scale(0))
 
     def bounds(self, number: int) -> Bounds:
         """The bounds of an arc."""

@@ -22,11 +22,14 @@ class Options:
 
     `surplus` is as in `Problem.solve`. `as_min` writes every assignment as a problem of least cost, in which arcs can
     be closed and opened. `without_costs` takes all costs as 0: what is asked then is whether there is a plan at all.
+    `without_plan` says that there is none, as is known: arcs without limit get the room that shows it, whatever circles
+    of them would save.
     """
 
     surplus: Surplus = "refuse"
     as_min: bool = False
     without_costs: bool = False
+    without_plan: bool = False
 
     def rest_cost(self) -> Optional[Decimal]:
         """What a unit that is kept or not met costs; None where there is none."""

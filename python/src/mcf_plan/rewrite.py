@@ -39,7 +39,9 @@ __all__ = [
     "Surplus",
     "Unbounded",
     "rewrite",
+    "rewrite_any",
     "solve",
+    "without_plan",
 ]
 
 Progress = Callable[[str], None]
@@ -61,6 +63,26 @@ def rewrite(problem: Problem, options: Options = Options()) -> Rewriting:
     a 1 2 0 1000000000 25
     """
     return Rewriting(problem, options)
+
+
+def rewrite_any(problem: Problem, options: Options = Options(), program: Optional[Program] = None) -> Rewriting:
+    """The text of a problem, also where there is no plan and circles without limit save: one that has no plan either.
+
+    Whether there is a plan is asked of the program then. Raises as `rewrite` does, Unbounded only where there are plans.
+    """
+    try:
+        return rewrite(problem, options)
+    except Unbounded as unbounded:
+        solve(problem, options, program)  # Raises Unbounded itself where there are plans.
+        return without_plan(problem, options, unbounded)
+
+
+def without_plan(problem: Problem, options: Options, unbounded: Unbounded) -> Rewriting:
+    """The text of a problem that has no plan, and if it had any, no best one, for this reason."""
+    rewriting = Rewriting(problem, replace(options, without_plan=True))
+    reason = str(unbounded).partition(": ")[2]
+    rewriting.notes.insert(0, f"there is no plan, by this text too; if there were plans, none would be best: {reason}")
+    return rewriting
 
 
 def solve(
@@ -234,6 +256,7 @@ class Rewriting:
 def _notes_of(rewriting: Rewriting) -> List[str]:
     """Says in words what was rewritten."""
     problem, figures, lines = rewriting.problem, rewriting.figures, rewriting.lines
+    is_without = figures.options.without_plan
     notes = []
     if rewriting.kind != problem.kind:
         notes.append(f"the problem of kind {problem.kind} is written as one of kind {rewriting.kind}")
@@ -243,8 +266,8 @@ def _notes_of(rewriting: Rewriting) -> List[str]:
     unlimited = sum(cap is None for cap in figures.caps)
     if unlimited:
         notes.append(
-            f"{counted(unlimited, 'arc')} without a capacity: {lines.room.whole} is written there, which no best flow "
-            "needs to fill"
+            f"{counted(unlimited, 'arc')} without a capacity: {lines.room.whole} is written there, "
+            + ("with more there would be no plan either" if is_without else "which no best flow needs to fill")
         )
     split = sum(count > 1 for count, _ in lines.forms)
     if split:

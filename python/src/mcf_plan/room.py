@@ -41,6 +41,8 @@ class Room:
 
 def find_room(figures: Figures, kind: str) -> Room:
     """The room that arcs need in a text of this kind. Raises Unbounded where there is no best plan."""
+    if figures.options.without_plan:
+        figures = figures.without_costs()
     problem, costs = figures.problem, figures.costs
     large: List[int] = []
     larger: List[int] = []

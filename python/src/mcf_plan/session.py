@@ -18,7 +18,7 @@ from .formats import MOST_ARCS, MOST_EDITS, REFUSALS
 from .plan import Infeasible, Plan
 from .problem import ZERO, Arc, ArcKey, Number, Problem, capacity, exact, plain
 from .program import Dialogue, Program
-from .rewrite import Change, DoesNotFit, Meaningless, Options, Rewriting, Surplus, Unbounded
+from .rewrite import Change, DoesNotFit, Meaningless, Options, Rewriting, Surplus, Unbounded, without_plan
 
 if TYPE_CHECKING:
     from contextlib import AbstractContextManager
@@ -65,7 +65,7 @@ class _Stretch:
     """A part of the session that the program holds in one dialogue: its text, the steps since, and where it stands.
 
     `unbounded` says that there would be no best plan if there were one at all: the text is without costs then, takes no
-    edit, and is not shown.
+    edit, and is not the one that is shown.
     """
 
     text: str
@@ -346,24 +346,17 @@ class Session:
         return result
 
     def text(self) -> str:
-        """The problem as it stands, as a text of the formats: `proof` is valid against it.
-
-        Raises Unbounded where no text has its meaning; it has no plan then.
-        """
-        return self._shown().rewriting.text
+        """The problem as it stands, as a text of the formats: `proof` is valid against it."""
+        stretch = self._moments[self._now].stretch
+        if stretch.unbounded is None:
+            return stretch.rewriting.text
+        self._not_in_group("the text")
+        return without_plan(self._problem, self._options, stretch.unbounded).text
 
     def proof(self) -> str:
-        """The answer as it stands, with its potentials or as a cut, as `mcf check` reads it. Raises as `text` does."""
-        self._shown()
+        """The answer as it stands, with its potentials or as a cut, as `mcf check` reads it."""
         with Deadline(self.time_limit) as deadline:
             return self._proof(deadline)
-
-    def _shown(self) -> _Stretch:
-        """The stretch that stands, whose text has the meaning of the tables."""
-        stretch = self._moments[self._now].stretch
-        if stretch.unbounded is not None:
-            raise stretch.unbounded
-        return stretch
 
     def _proof(self, deadline: Deadline) -> str:
         self._not_in_group("the answer")

@@ -566,7 +566,7 @@ class Handler(BaseHTTPRequestHandler):
             text, kind = self.server.board.export(name)
         except KeyError:
             self._refuse(404, "there is nothing here")
-        except (ValueError, Unbounded, Disagreement, ProgramFailed, TimeLimit) as error:
+        except (ValueError, Disagreement, ProgramFailed, TimeLimit) as error:
             self._refuse(409, in_words(error))
         else:
             self._answer(
