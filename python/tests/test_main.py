@@ -288,8 +288,12 @@ class Command(unittest.TestCase):
                 options = ["--kind", "max", "--source", "a", "--sink", "b"] if kind == "max" else []
                 self.assertIn("There is no plan", self.run_it("plan", *tables, *options, status=1)[0])
                 _, errors = self.run_it("convert", *tables, *options, "-o", "text")
-                self.assertIn("note: there is no plan, by this text too; if there were plans, none would be best: ", errors)
-                self.assertIn("a capacity: 1000000000 is written there, with more there would be no plan either", errors)
+                self.assertIn(
+                    "note: there is no plan, by this text too; if there were plans, none would be best: ", errors
+                )
+                self.assertIn(
+                    "a capacity: 1000000000 is written there, with more there would be no plan either", errors
+                )
                 text = self.folder.name + "/text"
                 answer = subprocess.run([os.environ["MCF"], "solve", text], capture_output=True, text=True, check=False)
                 self.assertEqual((answer.returncode, answer.stdout[:2]), (1, "i "), answer)
@@ -760,9 +764,10 @@ class Command(unittest.TestCase):
         for words in (("plan", self.nodes, arcs), ("explain", self.nodes, arcs), ("ranges", self.nodes, arcs), asked):
             with self.subTest(words[0]):
                 self.assertRegex(self.run_it(*words, status=1)[0], "[Nn]o plan")
-        out, _ = self.run_it("what-if", self.nodes, arcs, text="why\nwrite a.min\ncap 'Rom to Bari' 1\n", status=3)
+        out, _ = self.run_it("what-if", self.nodes, arcs, text="why\nadd Kiel Bonn\nwrite a.min\n", status=3)
         self.assertIn("no plan: short by 4; `why` tells more\nwhat if> why\nThere is no plan", out)
-        self.assertIn("refused, nothing is changed: there is no cheapest plan: around the circle Rom to Bari", out)
+        self.assertIn("no plan: short by 3; `why` tells more\nwhat if> write a.min\nwritten to a.min\n", out)
+        self.assertIn("cost", out)
 
     def test_names_of_tables_that_are_none(self):
         for words, status, reason in (

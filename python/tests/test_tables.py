@@ -1,14 +1,18 @@
 """Tables in and out: what is read, what is refused by line and column, and plans that come back."""
 
 import csv
+import io
+import random
 import subprocess
 import sys
 import tempfile
 import unittest
 from decimal import Decimal
 from pathlib import Path
+from unittest import mock
 
 import mcf_plan
+from mcf_plan.sheets import TextColumn, _sheet_of_lines, read_text
 from mcf_plan.tables import TableFault, read_tables, write_plan
 
 NODES = "name,supply\nKiel,5\nBerlin,-5\n"
@@ -105,6 +109,65 @@ class Tables(unittest.TestCase):
             self.read("name\nAnn\nBob\n", "from,to,cost\nAnn,early,3\n", kind="asn")
         with self.assertRaises(OSError):
             read_tables(None, "nowhere.csv")
+
+    def test_wide_tables(self):
+        """Columns that nobody looks at are not taken from their lines, whatever stands in them and however it stands."""
+        names = [f"c{number}" for number in range(30)]
+        notes = []
+        for title, options in (
+            ("plain", {}),
+            ("carriage returns", {"lineterminator": "\r\n"}),
+            ("quotes", {"quoting": csv.QUOTE_ALL}),
+            ("semicolons", {"delimiter": ";"}),
+        ):
+            with self.subTest(title):
+                out = io.StringIO(newline="")
+                writer = csv.writer(out, **{"lineterminator": "\n", **options})
+                writer.writerow(["from", "to", "blank", *names, "capacity", "cost", "name"])
+                for row in range(1200):
+                    kept = ["x" * (place % 3) + " " * (row % 2) for place in range(len(names))]
+                    writer.writerow(["Kiel", "Berlin", " ", *kept, row + 1, "2.5", f" road {row}"])
+                sheet = read_text(self.file("arcs.csv", out.getvalue()))
+                problem = read_tables(self.file("nodes.csv", NODES), self.file("arcs.csv", out.getvalue()))
+                self.assertEqual(
+                    (len(problem.arcs), problem.arcs[-1].cap, problem.arcs[-1].name), (1200, 1200, "road 1199")
+                )
+                notes.append(problem.notes)
+                self.assertRegex(notes[-1][0], "the columns 'c1', 'c2', 'c4', .* and 9 more are left aside")
+                self.assertEqual(list(sheet.columns[1])[::1199], ["Berlin", "Berlin"])
+                self.assertEqual(list(sheet.columns[0].lines.columns), [1])
+                whole = [list(column) for column in sheet.columns]
+                self.assertEqual(
+                    list(map(tuple, zip(*whole)))[7][:6], ("Kiel", "Berlin", whole[2][7], whole[3][7], "x ", "xx ")
+                )
+                self.assertEqual(whole[-1][7], " road 7" if title == "quotes" else "road 7")
+        self.assertEqual(notes[0], notes[1])
+
+    def test_lines_and_rows_are_read_alike(self):
+        """A text without quotes is parted where a column is asked for, and gives what the library's reader does."""
+        drawn = random.Random(5)
+        letters = ["a", "b", " ", "  ", "1", "2.5", "é", "", "", "\u2028", "\x0b", "x y"]
+        count = 0
+        for _ in range(300):
+            mark, width = drawn.choice(",;\t|"), drawn.choice([1, 2, 3, 20])
+            lines = []
+            for _ in range(drawn.randint(1, 6)):
+                fields = width + (drawn.choice([-1, 1]) if drawn.random() < 0.05 else 0)
+                lines.append(mark.join("".join(drawn.choices(letters, k=2)) for _ in range(fields)))
+                lines += ["", mark * (width - 1)] if drawn.random() < 0.1 else []
+            text = drawn.choice(["\n", "\r\n", "\r"]).join(lines)
+            path = self.file("drawn.csv", text)
+            found = []
+            for lazily in (True, False):
+                with mock.patch("mcf_plan.sheets._sheet_of_lines", _sheet_of_lines if lazily else lambda *_: None):
+                    try:
+                        sheet = read_text(path)
+                        count += isinstance(sheet.columns[0], TextColumn)
+                        found.append([sheet.header, sheet.lines, sheet.missing, *map(list, sheet.columns)])
+                    except TableFault as fault:
+                        found.append(str(fault))
+            self.assertEqual(*found, repr(text))
+        self.assertGreater(count, 80)
 
     def test_a_plan_as_a_table(self):
         plan = self.read(NODES, "from,to,capacity,cost\nKiel,Berlin,3,1.5\nKiel,Berlin,,2.5\n").solve()

@@ -70,6 +70,11 @@ def is_empty(cell: Any) -> bool:
     return cell is None or type(cell).__name__ in ("NAType", "NaTType") or isinstance(cell, float) and cell != cell
 
 
+def is_blank(cell: Any) -> bool:
+    """Whether nothing stands in a cell, as it is, or as a program writes one."""
+    return is_empty(cell) or isinstance(cell, Merged) or str(cell) in ("nan", "None", "<NA>", "NaT")
+
+
 def is_truth(cell: Any) -> bool:
     """Whether a cell is a truth value, of Python or of numpy."""
     return isinstance(cell, bool) or type(cell).__name__ in ("bool_", "bool")

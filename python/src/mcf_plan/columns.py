@@ -12,7 +12,7 @@ from contextlib import suppress
 from dataclasses import dataclass, field
 from typing import Any, Collection, Dict, Iterable, List, Mapping, NamedTuple, Optional, Sequence, Set, Tuple
 
-from .cells import NO_LIMIT, Merged, TableFault, is_empty
+from .cells import NO_LIMIT, TableFault, is_blank, is_empty
 from .measures import Unit, is_amount, unit_of
 from .sheets import Sheet
 from .vocabulary import (
@@ -33,6 +33,10 @@ from .vocabulary import (
     SWITCHES,
     TWO_WAYS,
 )
+
+
+MOST_TOLD = 12
+"""So many columns that are left aside are named at most."""
 
 
 class Match(NamedTuple):
@@ -123,8 +127,10 @@ def find_columns(
     for place in unknown:
         if place == 0 and not sheet.header[0] and "node" in kinds and "node" not in matches:
             continue  # It may have the names of the nodes.
-        if _is_left_aside(sheet, place, kinds, matches):
-            aside.append(place)
+        _check_unknown(sheet, place, kinds, matches)
+        aside.append(place)
+    blank = sheet.blank_columns(unknown)
+    aside = [place for place in aside if place not in blank]
     compare_units({what: (unit, sheet, sheet.header[found.places[what]]) for what, unit in found.units.items()})
     if aside:
         _tell_aside(sheet, aside)
@@ -160,6 +166,8 @@ def _tell_aside(sheet: Sheet, aside: Sequence[int]) -> None:
     names = [repr(sheet.header[place]) for place in sorted(aside) if sheet.header[place]]
     if len(names) < len(aside):
         names.append("one without a name")
+    if len(names) > MOST_TOLD:
+        names[MOST_TOLD - 1 :] = [f"{len(names) - MOST_TOLD + 1} more"]
     if len(aside) == 1:
         what = f"the column {names[0]} is" if sheet.header[aside[0]] else "the column without a name is"
     elif len(names) == 1:
@@ -311,29 +319,30 @@ def called(what: str) -> str:
 # ---------------------------------------------------------------- columns that are not understood
 
 
-def _is_left_aside(sheet: Sheet, place: int, kinds: Sequence[str], taken: Collection[str]) -> bool:
-    """Whether a column that matches nothing is to be told as left aside; False where it is empty. Raises TableFault
-    where it looks like one that matters."""
-    header = sheet.header[place]
+def _cells_of(sheet: Sheet, place: int) -> Set[str]:
+    """The different texts in the cells of a column, without those in which nothing stands."""
     held: Iterable[Any] = sheet.columns[place]
     with suppress(TypeError):
         held = set(held)  # Most columns repeat their cells.
-    texts = (str(cell) for cell in held if not isinstance(cell, Merged))
-    cells = {cell for cell in texts if not is_empty(cell)} - {"nan", "None", "<NA>", "NaT"}
+    return {str(cell) for cell in held if not is_blank(cell)}
+
+
+def _check_unknown(sheet: Sheet, place: int, kinds: Sequence[str], taken: Collection[str]) -> None:
+    """Raises TableFault where a column that matches nothing looks like one that matters."""
+    header = sheet.header[place]
     name = folded(header)
     if not name or name in HARMLESS:
-        return bool(cells)
+        return
     # Where the ends of an arc and the name of a node are known, other columns may have words like theirs.
     open_kinds = [what for what in kinds if what not in LABELS and not (what in taken and what in ENDS)]
-    why = _why_it_matters(name, header, len(cells), (kinds, open_kinds))
-    if not why and "capacity" in kinds and "capacity" not in taken and _may_be_capacity(name, header, cells):
+    why = _why_it_matters(sheet, place, (kinds, open_kinds))
+    if not why and "capacity" in kinds and "capacity" not in taken and _may_be_capacity(sheet, place):
         why = f"it may be the capacity, which no other column is; `--columns capacity={quoted(header)}` says so"
     if why:
         raise TableFault(
             f"{sheet.name}: the column {header!r} is not understood: {why}; `--columns aside={quoted(header)}` leaves "
             "it aside"
         )
-    return bool(cells)
 
 
 def quoted(name: str) -> str:
@@ -341,10 +350,12 @@ def quoted(name: str) -> str:
     return name if re.fullmatch(r"[\w.-]+", name) else "'" + name.replace("'", "'\\''") + "'"
 
 
-def _why_it_matters(name: str, header: str, different: int, kinds: Tuple[Sequence[str], Sequence[str]]) -> str:
+def _why_it_matters(sheet: Sheet, place: int, kinds: Tuple[Sequence[str], Sequence[str]]) -> str:
     """Why a column may matter to the plan, in words; '' where nothing speaks for it. `kinds` are the things of the
     table, and those that the column may be."""
     of_table, open_kinds = kinds
+    header = sheet.header[place]
+    name = folded(header)
     tokens = {*name.split(), name, name.replace(" ", "")}
     elsewhere = _of_other_table(tokens, of_table)
     if elsewhere:
@@ -357,7 +368,7 @@ def _why_it_matters(name: str, header: str, different: int, kinds: Tuple[Sequenc
         return "what is paid once, however much flows, can't be said: a cost is that of a unit"
     if tokens & SWITCHES and not _telling(name, open_kinds):
         return "each row counts; give the table without those that do not"
-    if tokens & PARTS and different > 1:
+    if tokens & PARTS and len(_cells_of(sheet, place)) > 1:
         return "all rows are one problem; give those of one plan alone"
     if "cost" in of_table and tokens & EARNINGS:
         return "what a unit earns is a cost below 0: take it off the cost"
@@ -397,10 +408,15 @@ def _has_word(name: str, word: str, least: int) -> bool:
     return word in name.split() or len(word) >= least and word in name.replace(" ", "")
 
 
-def _may_be_capacity(name: str, header: str, cells: Collection[str]) -> bool:
+def _may_be_capacity(sheet: Sheet, place: int) -> bool:
     """Whether a column has numbers, and a word of amounts or their unit over them."""
+    header = sheet.header[place]
+    name = folded(header)
+    if not is_amount(header) and not any(_has_word(name, word, 5) for word in AMOUNTS):
+        return False
+    cells = _cells_of(sheet, place)
     are_numbers = all(re.match(r"\s*[+-]?[.,]?\d", cell) or cell.strip().lower() in NO_LIMIT for cell in cells)
-    return bool(cells) and are_numbers and (is_amount(header) or any(_has_word(name, word, 5) for word in AMOUNTS))
+    return bool(cells) and are_numbers
 
 
 def _near(name: str, header: str, kinds: Sequence[str]) -> Optional[Tuple[str, str]]:

@@ -6,9 +6,9 @@ import csv
 import re
 from dataclasses import dataclass, field
 from pathlib import Path
-from typing import Any, Dict, FrozenSet, List, Optional, Sequence, Tuple
+from typing import Any, Collection, Dict, FrozenSet, Iterator, List, Optional, Sequence, Set, Tuple
 
-from .cells import TableFault, is_empty, not_plain, shown
+from .cells import TableFault, is_blank, is_empty, not_plain, shown
 
 DELIMITERS = ",;\t|"
 WORKBOOKS = (".xlsx", ".xlsm")
@@ -54,6 +54,13 @@ class Sheet:
             f"{self.name}, {self.place(row)}, column {self.header[column]!r}: {cell} stands there; {expected}"
         )
 
+    def blank_columns(self, places: Collection[int]) -> Set[int]:
+        """Those of the columns at these places in which nothing stands."""
+        parted = [column for column in self.columns if isinstance(column, TextColumn)]
+        if parted:
+            return parted[0].lines.blank(places)
+        return {place for place in places if all(map(is_blank, self.columns[place]))}
+
     def its_columns(self) -> str:
         """The names of the columns, for messages."""
         return ", ".join(repr(header) for header in self.header if header) or "without a name"
@@ -65,26 +72,41 @@ def sheet_of_rows(
     """The sheet of rows of cells, none of them empty, of which the first names the columns."""
     if not rows:
         raise TableFault(f"{name}: the table is empty: a row with the names of the columns comes first")
-    for cell in rows[0]:
+    sheet = _sheet_under(name, rows[0], lines, word=word, delimiter=delimiter)
+    kept, width = rows[1:], len(sheet.header)
+    if any(len(row) != width for row in kept):
+        kept = _fitted(sheet, kept)
+    columns: List[List[Any]] = [[] for _ in sheet.header]
+    # A few rows at a time: each column of all of them at once would fetch every row from memory anew.
+    for first in range(0, len(kept), ROWS_AT_ONCE):
+        for column, cells in zip(columns, zip(*kept[first : first + ROWS_AT_ONCE])):
+            column += cells
+    sheet.columns = [*columns]
+    _take_index(sheet)
+    return sheet
+
+
+def _sheet_under(name: str, names: Sequence[Any], lines: Sequence[int], *, word: str, delimiter: str) -> Sheet:
+    """A sheet without its columns, under the row that has their names; `lines` says where all rows stand."""
+    for cell in names:
         wrong = not_plain(cell)
         if wrong:
             raise TableFault(
                 f"{name}, {word} {lines[0]}: {shown(cell)} stands there; the name of a column was expected, and this is "
                 f"{wrong}"
             )
-    header = ["" if is_empty(cell) else str(cell).strip() for cell in rows[0]]
+    header = ["" if is_empty(cell) else str(cell).strip() for cell in names]
     while header and not header[-1]:
         header.pop()
-    if len(rows) == 1:
+    if len(lines) == 1:
         raise TableFault(f"{name}: the names of the columns stand there, and no row below them")
-    sheet = Sheet(name, header, [], lines[1:], word, delimiter)
-    kept, width = rows[1:], len(header)
-    if any(len(row) != width for row in kept):
-        kept = _fitted(sheet, kept)
-    sheet.columns = list(zip(*kept)) if kept else [[] for _ in header]
-    if header and not header[0] and len(header) > 1:
+    return Sheet(name, header, [], lines[1:], word, delimiter)
+
+
+def _take_index(sheet: Sheet) -> None:
+    """Takes a first column without a name for one that may have the names of the rows."""
+    if sheet.header and not sheet.header[0] and len(sheet.header) > 1:
         sheet.index, sheet.index_name = sheet.columns[0], "the first column, which has no name,"
-    return sheet
 
 
 def _fitted(sheet: Sheet, rows: Sequence[Sequence[Any]]) -> List[Sequence[Any]]:
@@ -119,6 +141,12 @@ def _fitted(sheet: Sheet, rows: Sequence[Sequence[Any]]) -> List[Sequence[Any]]:
 
 _LINE = re.compile(r"[^\r\n]*(?:\r\n?|\n)|[^\r\n]+")
 
+ROWS_AT_ONCE = 500
+FIELD_MARK = "\x1f"
+"""Parts the fields of a line whose quotes were taken off; this is what it was made for, and no table has it."""
+NARROW = 16
+"""The columns of a table that has no more are all taken from its lines at once."""
+
 
 class _Shared(Dict[str, str]):
     """Texts by themselves: what is looked up is the first one that was alike."""
@@ -126,6 +154,64 @@ class _Shared(Dict[str, str]):
     def __missing__(self, text: str) -> str:
         self[text] = text
         return text
+
+
+class TextLines:
+    """The lines of a text below its header, each of so many fields that a mark parts. They are parted where a column is
+    asked for: most columns of a wide table are never looked at. Cells that are alike are one in memory."""
+
+    def __init__(self, lines: Sequence[str], mark: str, width: int, *, has_blanks: bool):
+        self.lines, self.count = lines, len(lines)
+        self.mark, self.width = mark, width
+        self.has_blanks = has_blanks  # Before fields, which are no part of them.
+        self.columns: Dict[int, List[str]] = {}
+        self._shared = _Shared()
+
+    def column(self, place: int) -> List[str]:
+        """The cells of a column."""
+        if place not in self.columns:
+            # Who asks for one column after the other will ask for the rest too.
+            is_one = self.width > NARROW and len(self.columns) < NARROW
+            self._take([place] if is_one else [other for other in range(self.width) if other not in self.columns])
+        return self.columns[place]
+
+    def _take(self, places: Sequence[int]) -> None:
+        last, shared = max(places) + 1, self._shared.__getitem__
+        columns: List[List[str]] = [[] for _ in places]
+        for first in range(0, len(self.lines), ROWS_AT_ONCE):
+            rows = [line.split(self.mark, last) for line in self.lines[first : first + ROWS_AT_ONCE]]
+            for place, column in zip(places, columns):
+                cells = [row[place] for row in rows]
+                column += map(shared, [cell.lstrip(" ") for cell in cells] if self.has_blanks else cells)
+        self.columns.update(zip(places, columns))
+        if len(self.columns) == self.width:
+            self.lines, self._shared = (), _Shared()
+
+    def blank(self, places: Collection[int]) -> Set[int]:
+        """Those of the columns at these places in which nothing stands."""
+        left = {place for place in places if all(map(is_blank, self.columns.get(place, ())))}
+        for line in self.lines:
+            if left <= self.columns.keys():
+                break
+            fields = line.split(self.mark)
+            left = {place for place in left if is_blank(fields[place])}
+        return left
+
+
+class TextColumn(Sequence[str]):
+    """A column of a text, which is taken from its lines where a cell of it is asked for."""
+
+    def __init__(self, lines: TextLines, place: int):
+        self.lines, self.place = lines, place
+
+    def __len__(self) -> int:
+        return self.lines.count
+
+    def __getitem__(self, row: Any) -> Any:
+        return self.lines.column(self.place)[row]
+
+    def __iter__(self) -> Iterator[str]:
+        return iter(self.lines.column(self.place))
 
 
 def read_text(path: Path, encoding: Optional[str] = None) -> Sheet:
@@ -139,8 +225,10 @@ def read_text(path: Path, encoding: Optional[str] = None) -> Sheet:
         text = re.sub(r"sep=.", "", text, count=1, flags=re.IGNORECASE)
     else:
         delimiter = _delimiter(first, path.name)
-    rows, starts = _rows(text, path.name, delimiter)
-    sheet = sheet_of_rows(path.name, rows, starts, word="line", delimiter=delimiter)
+    sheet = _sheet_of_lines(path.name, text, delimiter)
+    if sheet is None:
+        rows, starts = _rows(text, path.name, delimiter)
+        sheet = sheet_of_rows(path.name, rows, starts, word="line", delimiter=delimiter)
     if len(sheet.header) == 1 and re.search(r"\S\s+\S", first):
         raise TableFault(
             f"{path.name}: one column alone is there, {sheet.header[0]!r}; columns are parted by commas, semicolons, "
@@ -149,22 +237,57 @@ def read_text(path: Path, encoding: Optional[str] = None) -> Sheet:
     return sheet
 
 
-def _rows(text: str, name: str, delimiter: str) -> Tuple[List[Sequence[str]], List[int]]:
-    """The rows of a text that have a cell, and the lines where they begin. Cells that are alike are one in memory."""
+def _sheet_of_lines(name: str, text: str, delimiter: str) -> Optional[Sheet]:
+    """The sheet of a text that has a field in each line for each column; None of another one, and of a narrow one with
+    quotes, which gains nothing by it."""
+    mark, has_quotes = delimiter, '"' in text or delimiter not in DELIMITERS
+    if not has_quotes:
+        lines = text.replace("\r\n", "\n").replace("\r", "\n").split("\n")
+        starts = [number for number, line in enumerate(lines, 1) if line.strip(delimiter + " ")]
+        kept = [lines[number - 1] for number in starts]
+        if not kept or max(map(len, kept)) > csv.field_size_limit():
+            return None
+    elif text.count(delimiter, 0, (text.find("\n") + 1) or None) < NARROW or FIELD_MARK in text:
+        return None
+    else:
+        mark = FIELD_MARK
+        starts, kept = [], []
+        for start, row in _records(text, name, delimiter):
+            starts.append(start)
+            kept.append(mark.join(row))
+    names = kept[0].split(mark) if has_quotes else [cell.lstrip(" ") for cell in kept[0].split(mark)]
+    if not names[-1].strip() or any(line.count(mark) != len(names) - 1 for line in kept):
+        return None
+    sheet = _sheet_under(name, names, starts, word="line", delimiter=delimiter)
+    has_blanks = not has_quotes and any(line[0] == " " or delimiter + " " in line for line in kept)
+    parted = TextLines(kept[1:], mark, len(names), has_blanks=has_blanks)
+    sheet.columns = [TextColumn(parted, place) for place in range(len(names))]
+    _take_index(sheet)
+    return sheet
+
+
+def _records(text: str, name: str, delimiter: str) -> Iterator[Tuple[int, List[str]]]:
+    """The rows of a text that have a cell, each behind the number of the line where it begins."""
     lines = (found[0] for found in _LINE.finditer(text))
     reader = csv.reader(lines, delimiter=delimiter, skipinitialspace=True, strict=True)
-    shared = _Shared()
-    rows: List[Sequence[str]] = []
-    starts: List[int] = []
     begins = 1
     try:
         for row in reader:
             if any(row):
-                rows.append(tuple(map(shared.__getitem__, row)))
-                starts.append(begins)
+                yield begins, row
             begins = reader.line_num + 1
     except csv.Error as error:
         raise TableFault(f"{name}, line {begins}: {_csv_words(str(error))}") from None
+
+
+def _rows(text: str, name: str, delimiter: str) -> Tuple[List[Sequence[str]], List[int]]:
+    """The rows of a text that have a cell, and the lines where they begin. Cells that are alike are one in memory."""
+    shared = _Shared()
+    rows: List[Sequence[str]] = []
+    starts: List[int] = []
+    for start, row in _records(text, name, delimiter):
+        rows.append(tuple(map(shared.__getitem__, row)))
+        starts.append(start)
     return rows, starts
 
 

@@ -229,10 +229,17 @@ def _read_nodes(problem: Problem, table: Table, ends: Collection[str]) -> None:
     table.tell_sign()
 
 
+def _says_demand(cells: Iterable[Any]) -> bool:
+    """Whether a cell says that a node demands."""
+    return any(folded(cell) in DEMANDING for cell in {cell for cell in cells if isinstance(cell, str)})
+
+
 def _check_signs(table: Table, supplies: Sequence[Decimal]) -> None:
     """Raises TableFault where a column that is left aside says that a node demands, and no supply is below 0."""
     sheet, used = table.sheet, set(table.found.places.values())
     for place in set(range(len(sheet.header))) - used:
+        if not _says_demand(sheet.columns[place]):
+            continue
         for row, (cell, supply) in enumerate(zip(sheet.columns[place], supplies)):
             if supply and isinstance(cell, str) and folded(cell) in DEMANDING:
                 raise table.fault(
