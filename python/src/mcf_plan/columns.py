@@ -50,11 +50,13 @@ class Match(NamedTuple):
 @dataclass
 class Found:
     """Which columns of a sheet hold what. `names` are the columns that may have the names of the nodes, where more than
-    one may. `is_plan` says that mcf-plan wrote the table."""
+    one may. `told` are the things that were said for columns, by their places. `is_plan` says that mcf-plan wrote the
+    table."""
 
     places: Dict[str, int] = field(default_factory=dict)
     units: Dict[str, Unit] = field(default_factory=dict)
     names: List[int] = field(default_factory=list)
+    told: Dict[int, str] = field(default_factory=dict)
     is_plan: bool = False
 
 
@@ -107,8 +109,8 @@ def find_columns(
     Raises TableFault where a column that looks like one that matters is not understood, and where two are the same
     thing.
     """
-    found = Found()
     told = _told(sheet, kinds, chosen)
+    found = Found(told=dict(told))
     if "cost" in kinds:
         own = _own_columns(sheet, {*told.values(), *unused})
     else:
@@ -178,9 +180,10 @@ def _tell_aside(sheet: Sheet, aside: Sequence[int]) -> None:
 
 
 def _told(sheet: Sheet, kinds: Sequence[str], chosen: Mapping[str, Sequence[str]]) -> Dict[int, str]:
-    """The things that were said for columns, by their places."""
+    """The things that were said for columns, by their places. A column that is said to be left aside, and to be a thing
+    too, is that thing: the other table may have one of its name."""
     told: Dict[int, str] = {}
-    for what, names in chosen.items():
+    for what, names in sorted(chosen.items(), key=lambda pair: pair[0] != "aside"):
         if what not in kinds and what != "aside":
             continue
         for name in names:

@@ -22,7 +22,7 @@ from .cells import (
     not_plain,
     shown,
 )
-from .columns import Found, called
+from .columns import Found, called, match_of
 from .problem import ZERO, Number, exact, plain
 from .sheets import Sheet
 from .vocabulary import COLUMNS, DITTO
@@ -68,11 +68,21 @@ class Reading:
         return cls(named, decimal, cost, encoding)
 
 
-def no_column(sheet: Sheet, what: str) -> TableFault:
-    """There is no column that holds this."""
+def no_column(sheet: Sheet, what: str, found: Found, otherwise: str = "") -> TableFault:
+    """There is no column that holds this, or it was said to be something else. `otherwise` is what may be done but for
+    naming another one."""
+    named = f"`--columns {what}=NAME` names it{otherwise}"
+    for place, said in found.told.items():
+        header = sheet.header[place]
+        if match_of(header, [what]):
+            is_said = "said to be left aside" if said == "aside" else f"said to be {called(said)}"
+            return TableFault(
+                f"{sheet.name}: the column {header!r} is {is_said}, and no other looks like {called(what)}; if one is, "
+                f"{named}"
+            )
     return TableFault(
         f"{sheet.name}: there is no column {COLUMNS[what][0]!r} (nor {', '.join(COLUMNS[what][1:6])}, ..); its columns "
-        f"are {sheet.its_columns()}; `--columns {what}=NAME` names it"
+        f"are {sheet.its_columns()}; {named}"
     )
 
 
@@ -144,7 +154,7 @@ class Table:
     def names(self, what: str) -> List[str]:
         """The names in a column that has to be there, none of them empty."""
         if not self.has(what):
-            raise no_column(self.sheet, what)
+            raise no_column(self.sheet, what, self.found)
         names = self.names_of(self.found.places[what])
         if "" in names:
             raise self.fault(names.index(""), what, "a name was expected")

@@ -181,7 +181,7 @@ def _find_names(table: Table, ends: Iterable[str]) -> None:
         )
         sheet.notes.append(f"{sheet.name}: {sheet.index_name} is taken as {called('node')}")
         return
-    raise no_column(sheet, "node")
+    raise no_column(sheet, "node", found)
 
 
 def _units(table: Table) -> Dict[str, Any]:
@@ -197,7 +197,7 @@ def _read_nodes(problem: Problem, table: Table, ends: Collection[str]) -> None:
     """Adds the nodes of the table of nodes."""
     sheet = table.sheet
     if not table.has("supply") and not table.has("demand") and problem.kind == "min":
-        raise no_column(sheet, "supply")
+        raise no_column(sheet, "supply", table.found)
     names = table.names("node")
     lines: Dict[str, int] = {}
     for row, name in enumerate(names):
@@ -344,10 +344,7 @@ def _costs(kind: str, table: Table) -> List[Decimal]:
     sheet = table.sheet
     if not table.has("cost"):
         if default is None:
-            raise TableFault(
-                f"{sheet.name}: there is no column 'cost' (nor {', '.join(COLUMNS['cost'][1:6])}, ..); its columns are "
-                f"{sheet.its_columns()}; `--columns cost=NAME` names it, and `--default-cost 0` takes 0 for all"
-            )
+            raise no_column(sheet, "cost", table.found, ", and `--default-cost 0` takes 0 for all")
         sheet.notes.append(f"{sheet.name}: there is no column of costs; a unit costs {plain(default)} on each arc")
         return [default] * len(table)
     costs = table.numbers("cost", default)
