@@ -3,9 +3,9 @@
 import io
 import sys
 import unittest
-from typing import List, Optional
+from typing import Iterator, List, Optional
 
-from mcf_plan import Problem, Session
+from mcf_plan import Arc, Problem, Session
 from mcf_plan.conversation import Conversation
 
 
@@ -59,6 +59,33 @@ class Names(unittest.TestCase):
 
     def test_the_minus_sign_of_a_text(self) -> None:
         self.assertEqual(answers("supply b \N{MINUS SIGN}4", "supply a 4"), answers("supply b -4", "supply a 4"))
+
+    def test_numbers_are_no_misspelled_names(self) -> None:
+        problem = roads()
+        problem.add_arc("a", "b", cap=1, cost=9, name="r5")
+        for line, reason in (
+            ("cap b a 5", "no arc b to a"),
+            ("cap #5 5", "no arc #5 among 3 arcs"),
+            ("cap r5x 5", "r5?"),
+        ):
+            self.assertTrue(answers(line, problem=problem)[0].endswith(reason), line)
+
+    def test_misspelled_names_of_many_arcs(self) -> None:
+        """A line that is refused does not look at each arc."""
+
+        class Arcs(List[Arc]):
+            """Arcs that are not to be gone through."""
+
+            def __iter__(self) -> Iterator[Arc]:
+                raise AssertionError("all arcs are looked at")
+
+        out = io.StringIO()
+        with Session(roads()) as session:
+            conversation = Conversation(session, out)
+            conversation.answer("cap cheap 4")
+            session.problem.arcs = Arcs(session.problem.arcs)
+            conversation.answer("cap cheep 1")
+        self.assertIn("did you mean cheap?", out.getvalue())
 
 
 class Groups(unittest.TestCase):
@@ -150,6 +177,8 @@ class Words(unittest.TestCase):
             ("cap cheep 1", "there is no arc cheep; did you mean cheap?"),
             ("cap Cheap 1", "there is no arc Cheap; did you mean cheap?"),
             ("cap road9 1", "there is no arc road9"),
+            ("close cheapp", "there is no arc cheapp; did you mean cheap?"),
+            ("add a cheapp cap 3", "there is no node cheapp; did you mean cheap?"),
             ("cap a to b 1", "there are several arcs a to b: say which by its number: they are #1, #2"),
             ('cap "a b" 1', "there are several arcs a to b: say which by its number: they are #1, #2"),
             ('cap "a to b" 1', "there are several arcs a to b: say which by its number: they are #1, #2"),

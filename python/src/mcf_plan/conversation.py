@@ -75,6 +75,17 @@ def number(text: str) -> str:
     return text.replace("\N{MINUS SIGN}", "-")
 
 
+def names_in(command: str, words: List[str]) -> List[str]:
+    """The words behind a command that are names, and no numbers.
+
+    >>> names_in("cap", ["A", "B", "5"]), names_in("add", ["A", "B", "cost", "5"]), names_in("close", ["A", "B"])
+    (['A', 'B'], ['A', 'B'], ['A', 'B'])
+    """
+    if command == "add":
+        return words[:2]
+    return words if command == "close" else words[:-1]
+
+
 class Conversation:
     """A what-if session in words: `session` answers, `out` takes what is said. No file takes the place of one of the
     tables `inputs`, nor of the file of `commands`.
@@ -185,7 +196,7 @@ class Conversation:
         except SeveralArcs as error:
             self.refuse(error, which(error))
         except KeyError as error:
-            self.refuse(error, str(error.args[0]) + self.meant(words[1:]))
+            self.refuse(error, str(error.args[0]) + self.meant(names_in(words[0].lower(), words[1:])))
         except TimeLimit as error:
             self.not_done.append((self.line, error))
             self.say(f"stopped, nothing is changed: {error}")
@@ -204,11 +215,12 @@ class Conversation:
 
     def meant(self, words: List[str]) -> str:
         """What may have been meant by words that name nothing, in words."""
-        problem = self.session.problem
-        known = {*problem.nodes, *(arc.name for arc in problem.arcs if arc.name)}
-        spelled = {name.lower(): name for name in known} if len(known) <= MOST_ALIKE else {}
+        nodes, arcs = self.session.problem.nodes, self.session.problem.arc_names()
+        if len(nodes) + len(arcs) > MOST_ALIKE:
+            return ""
+        spelled = {name.lower(): name for name in (*nodes, *arcs)}
         for word in words:
-            if word not in known:
+            if word not in nodes and word not in arcs and not word.startswith("#"):
                 for near in difflib.get_close_matches(word.lower(), spelled, 1):
                     return f"; did you mean {spelled[near]}?"
         return ""

@@ -8,7 +8,20 @@ from decimal import Context, Decimal, InvalidOperation
 from fractions import Fraction
 from functools import lru_cache
 from numbers import Real
-from typing import TYPE_CHECKING, Any, Callable, Dict, Iterable, Iterator, List, NamedTuple, Optional, Tuple, Union
+from typing import (
+    TYPE_CHECKING,
+    Any,
+    Callable,
+    Collection,
+    Dict,
+    Iterable,
+    Iterator,
+    List,
+    NamedTuple,
+    Optional,
+    Tuple,
+    Union,
+)
 
 from .dimacs import ProblemReader, read_with
 from .formats import ARC_FIELDS, Text
@@ -255,6 +268,11 @@ class Problem:
         if isinstance(found, list):
             raise SeveralArcs(_called(which), list(found))
         return found
+
+    def arc_names(self) -> Collection[str]:
+        """The names that arcs have."""
+        self._list_arcs()
+        return self._by_name.keys()
 
     def append_arc(self, arc: Arc) -> None:
         """Adds an arc as `make_arc` makes it, whose ends are there."""
