@@ -5,6 +5,7 @@ import unittest
 from decimal import Decimal
 
 from mcf_plan import Problem
+from mcf_plan.tables import TableFault
 
 try:
     import pandas
@@ -30,6 +31,17 @@ class Frames(unittest.TestCase):
         self.assertEqual(Problem.from_frames(nodes, arcs).solve().cost, Decimal("0.2"))
         most = Problem.from_frames(None, arcs.drop(columns="cost"), kind="max", source="a", sink="b")
         self.assertEqual(most.solve().cost, 3)
+
+    def test_what_is_no_number(self) -> None:
+        """A period is written as its year, and is no amount."""
+        nodes = pandas.DataFrame({"name": ["a", "b"], "supply": [2, -2]})
+        arcs = pandas.DataFrame(
+            {"from": ["a"], "to": ["b"], "capacity": pandas.period_range("2026", periods=1, freq="Y")}
+        )
+        with self.assertRaisesRegex(
+            TableFault, "row 0, column 'capacity': Period.* stands there; a number was expected"
+        ):
+            Problem.from_frames(nodes, arcs.assign(cost=[1]))
 
     def test_arcs(self) -> None:
         plan = shipped().solve(surplus="keep")

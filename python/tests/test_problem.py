@@ -6,6 +6,7 @@ import time
 import unittest
 from decimal import Decimal
 from fractions import Fraction
+from pathlib import Path
 
 from mcf_plan import Meaningless, Plan, Problem, Refused
 from mcf_plan.problem import SeveralArcs, capacity, exact, plain
@@ -29,7 +30,7 @@ class Numbers(unittest.TestCase):
                 self.assertEqual(plain(exact(given)), wanted)
 
     def test_what_is_refused(self):
-        for given in ("", "x", "nan", float("inf"), float("nan"), Fraction(1, 3), "1e999", None, [1]):
+        for given in ("", "x", "nan", float("inf"), float("nan"), Fraction(1, 3), "1e999", None, [1], Path("1")):
             with self.subTest(given), self.assertRaisesRegex(ValueError, "the cost is"):
                 exact(given, "the cost")
 

@@ -57,6 +57,8 @@ MONEY = "€$£¥"
 MOST_EXACT = 2**53
 """Up to here each whole number is a float."""
 _WELL_FORMED = re.compile(r"([+-]?)(\d[\d.,]*|[.,]\d+)([eE][+-]?\d{1,3})?", re.ASCII)
+_GROUPED = re.compile(r"([+-]?)([1-9]\d{0,2}(?:([ \u00a0\u202f\u2009'\u2019])\d{3})(?:\3\d{3})*)([.,]\d+)?", re.ASCII)
+"""A number whose thousands blanks part, or apostrophes; what stands behind a mark are its decimals then."""
 _WITH_EXPONENT = re.compile(r"[+-]?[\d.,]+[eE][+-]?\d+", re.ASCII)
 _PLAIN_NAME = re.compile(r"[A-Z][a-z]{3,}( [A-Za-z0-9]+)*")
 _PLAIN_NUMBER = re.compile(r"[0-9]{1,30}")
@@ -175,6 +177,9 @@ class Undecided(ValueError):
 
 def _decimal_mark(cell: str) -> Optional[str]:
     """The mark that parts decimals, by what one cell shows; '' where it shows nothing, None where it may be either."""
+    grouped = _GROUPED.fullmatch(cell)
+    if grouped:
+        return grouped[4][0] if grouped[4] else ""
     found = _WELL_FORMED.fullmatch(cell)
     if not found:
         return ""
@@ -194,6 +199,13 @@ def _decimal_mark(cell: str) -> Optional[str]:
     return last
 
 
+def bare(cell: str) -> str:
+    """A cell without the blanks around it, and with a plain minus sign, where it has that of typesetting, as programs
+    write it in Swedish and other languages."""
+    cell = cell.strip()
+    return "-" + cell[1:] if cell.startswith("\N{MINUS SIGN}") else cell
+
+
 def decimal_sign(cells: Iterable[Any], *, point_is_usual: bool) -> Sign:
     """Which mark parts decimals in these cells. `point_is_usual` says that it is a point unless a cell has a comma.
 
@@ -205,7 +217,7 @@ def decimal_sign(cells: Iterable[Any], *, point_is_usual: bool) -> Sign:
     texts = [cell for cell in cells if isinstance(cell, str)]
     if point_is_usual and not any("," in cell or cell.count(".") > 1 for cell in texts):
         return Sign(".")
-    marked = [cell.strip() for cell in texts if "," in cell or "." in cell]
+    marked = [bare(cell) for cell in texts if "," in cell or "." in cell]
     showing: Dict[str, str] = {}
     unclear: List[str] = []
     for cell in marked:
@@ -230,12 +242,16 @@ class Numbers(Dict[Any, Optional[Decimal]]):
     None too.
     """
 
+    has_thousands = True
+
     def __init__(self, sign: Sign, *, has_limits: bool = False):
         super().__init__()
         self.sign = sign
         self.has_limits = has_limits
         self.grouped: Dict[str, Decimal] = {}
         """Cells with a mark that parts thousands with one decimal sign, and decimals with the other."""
+        self.parted: Dict[str, Decimal] = {}
+        """Cells in which blanks or apostrophes part thousands."""
 
     def __missing__(self, cell: Any) -> Optional[Decimal]:
         number = self[cell] = self._read(cell)
@@ -243,7 +259,7 @@ class Numbers(Dict[Any, Optional[Decimal]]):
 
     def _read(self, cell: Any) -> Optional[Decimal]:
         if isinstance(cell, str):
-            cell = cell.strip()
+            cell = bare(cell)
             if not cell or self.has_limits and cell.lower() in NO_LIMIT:
                 return None
             return Decimal(cell) or ZERO if _PLAIN_NUMBER.fullmatch(cell) else self._read_text(cell)
@@ -259,6 +275,12 @@ class Numbers(Dict[Any, Optional[Decimal]]):
 
     def _read_text(self, cell: str) -> Decimal:
         mark, thousands = self.sign.mark, self.sign.thousands
+        if _GROUPED.fullmatch(cell) and self.has_thousands:
+            if thousands in cell:
+                raise CellFault(f"a number was expected, and decimals are parted by {shown(mark)} here")
+            number = exact("".join(letter for letter in cell.replace(mark, ".") if letter in "+-.0123456789"))
+            self.parted[cell] = number
+            return number
         found = _WELL_FORMED.fullmatch(cell)
         text = cell
         if found and thousands in cell:
@@ -279,6 +301,8 @@ class Numbers(Dict[Any, Optional[Decimal]]):
 class Coordinates(Numbers):
     """Where places are on a map. There are no thousands, so either mark parts decimals: they often come from elsewhere
     than the other numbers of a table."""
+
+    has_thousands = False
 
     def __init__(self) -> None:
         super().__init__(Sign("."))
@@ -312,7 +336,7 @@ def number_hint(cell: str) -> str:
         return ": write a plain - before a number that is below 0"
     if "%" in cell:
         return ": write the number without a percent sign"
-    if any(sign in cell for sign in MONEY) or re.match(r"[A-Za-z]{3}\s*[.,]?\d[\d.,]*$", cell):
+    if any(sign in cell for sign in MONEY) or re.match(r"[A-Z]{3}\s*[.,]?\d[\d.,]*$", cell):
         return ": leave the currency out; it can stand in the name of the column, as in 'cost (EUR)'"
     if re.fullmatch(r"\d{1,4}[-/.]\d{1,2}[-/.]\d{1,4}", cell):
         return ", and this looks like a date"

@@ -17,6 +17,8 @@ from .measures import Unit, is_amount, unit_of
 from .sheets import Sheet
 from .vocabulary import (
     AMOUNTS,
+    BOTH_WAYS,
+    CLOSED,
     COLUMNS,
     COSTLY,
     EARNINGS,
@@ -26,12 +28,14 @@ from .vocabulary import (
     LABELS,
     LIMITING,
     LOSSES,
+    OF_ASSIGNMENTS,
     OWN,
     OWN_OF_NODES,
     PARTS,
     STAND_INS,
     SWITCHES,
     TWO_WAYS,
+    WORDY,
 )
 
 
@@ -86,7 +90,7 @@ def _words_of(table: Mapping[str, Sequence[str]]) -> Dict[str, List[str]]:
     return found
 
 
-_WORDS, _STAND_INS = _words_of(COLUMNS), _words_of(STAND_INS)
+_WORDS, _STAND_INS, _OF_ASSIGNMENTS = _words_of(COLUMNS), _words_of(STAND_INS), _words_of(OF_ASSIGNMENTS)
 _SPELLED = {folded(name): name for names in COLUMNS.values() for name in names}
 # Single words that a longer name may not have without being looked at; short ones, such as `de` or `a`, are in many.
 _TELLING = {word: things for word, things in _WORDS.items() if " " not in word and len(word) >= 3}
@@ -101,11 +105,13 @@ def find_columns(
     *,
     unused: Collection[str] = (),
     beside_plan: bool = False,
+    is_assignment: bool = False,
 ) -> Found:
     """Which column holds which of the things `kinds`. Notes of what was chosen are added to the sheet.
 
     `chosen` are names of columns that were said, for a thing or for 'aside'. Columns of things that are `unused` are
-    left aside. `beside_plan` says that the other table is a plan that mcf-plan wrote.
+    left aside. `beside_plan` says that the other table is a plan that mcf-plan wrote, `is_assignment` that the arcs are
+    those of an assignment.
     Raises TableFault where a column that looks like one that matters is not understood, and where two are the same
     thing.
     """
@@ -117,7 +123,7 @@ def find_columns(
         own = _own_columns_of_nodes(sheet) if beside_plan else set()
     found.is_plan = bool(own)
     told.update(dict.fromkeys(own - told.keys(), "aside"))
-    matches, unknown, aside = _matched(sheet, kinds, told, unused)
+    matches, unknown, aside = _matched(sheet, kinds, told, unused, is_assignment)
     if not matches and not (sheet.index and "node" in kinds):
         raise TableFault(
             f"{sheet.name}: no column is understood; the names of the columns come first, and here they are "
@@ -129,7 +135,7 @@ def find_columns(
     for place in unknown:
         if place == 0 and not sheet.header[0] and "node" in kinds and "node" not in matches:
             continue  # It may have the names of the nodes.
-        _check_unknown(sheet, place, kinds, matches)
+        _check_unknown(sheet, place, [what for what in kinds if what not in unused], matches)
         aside.append(place)
     blank = sheet.blank_columns(unknown)
     aside = [place for place in aside if place not in blank]
@@ -140,7 +146,7 @@ def find_columns(
 
 
 def _matched(
-    sheet: Sheet, kinds: Sequence[str], told: Mapping[int, str], unused: Collection[str]
+    sheet: Sheet, kinds: Sequence[str], told: Mapping[int, str], unused: Collection[str], is_assignment: bool
 ) -> Tuple[Dict[str, List[Tuple[int, Match]]], List[int], List[int]]:
     """The columns that match each thing, those that match nothing, and those that are left aside, by their places."""
     matches: Dict[str, List[Tuple[int, Match]]] = {}
@@ -152,6 +158,10 @@ def _matched(
             aside.append(place)
             continue
         match = match_of(header, kinds if said is None else [said])
+        if match is None and is_assignment:
+            match = next(
+                (Match(what, None, True) for what in _OF_ASSIGNMENTS.get(folded(header), ()) if what in kinds), None
+            )
         if said is not None:
             matches.setdefault(said, []).append((place, match or Match(said, None)))
         elif match is None:
@@ -334,11 +344,16 @@ def _check_unknown(sheet: Sheet, place: int, kinds: Sequence[str], taken: Collec
     """Raises TableFault where a column that matches nothing looks like one that matters."""
     header = sheet.header[place]
     name = folded(header)
+    if name in WORDY:
+        _check_words(sheet, place, kinds)
     if not name or name in HARMLESS:
         return
     # Where the ends of an arc and the name of a node are known, other columns may have words like theirs.
     open_kinds = [what for what in kinds if what not in LABELS and not (what in taken and what in ENDS)]
     why = _why_it_matters(sheet, place, (kinds, open_kinds))
+    if not why and "cost" in kinds and _is_money(header):
+        none = "" if "cost" in taken else ", which no other column is"
+        why = f"it may be the cost of a unit{none}; `--columns cost={quoted(header)}` says so"
     if not why and "capacity" in kinds and "capacity" not in taken and _may_be_capacity(sheet, place):
         why = f"it may be the capacity, which no other column is; `--columns capacity={quoted(header)}` says so"
     if why:
@@ -346,6 +361,32 @@ def _check_unknown(sheet: Sheet, place: int, kinds: Sequence[str], taken: Collec
             f"{sheet.name}: the column {header!r} is not understood: {why}; `--columns aside={quoted(header)}` leaves "
             "it aside"
         )
+
+
+def _check_words(sheet: Sheet, place: int, kinds: Sequence[str]) -> None:
+    """Raises TableFault where a cell of a column of remarks says that its row does not count, or counts both ways."""
+    for row, cell in enumerate(sheet.columns[place]):
+        word = folded(cell) if isinstance(cell, str) else ""
+        if word in CLOSED or word in BOTH_WAYS and "from" in kinds:
+            why = (
+                "each row counts: give the table without those that do not"
+                if word in CLOSED
+                else "an arc leads from `from` to `to` alone: give the way back a row of its own"
+            )
+            aside = f"`--columns aside={quoted(sheet.header[place])}` leaves the column aside"
+            raise sheet.fault(row, place, f"{why}; {aside}")
+
+
+def _is_money(header: str) -> bool:
+    """Whether a unit of money alone is the name of a column, as EUR/t."""
+    unit = unit_of(header)
+    return unit is not None and unit.is_money and len(header.strip()) > 1
+
+
+def _is_rent(header: str) -> bool:
+    """Whether the name of a column says that it is paid for a time, as `cost (EUR/month)`."""
+    units = (unit_of(behind) for base, behind in _parted(header) if "cost" in _WORDS.get(folded(base), ()))
+    return any(unit is not None and unit.is_for_a_time for unit in units)
 
 
 def quoted(name: str) -> str:
@@ -360,7 +401,7 @@ def _why_it_matters(sheet: Sheet, place: int, kinds: Tuple[Sequence[str], Sequen
     header = sheet.header[place]
     name = folded(header)
     tokens = {*name.split(), name, name.replace(" ", "")}
-    elsewhere = _of_other_table(tokens, of_table)
+    elsewhere = _of_other_table(tokens, header, of_table)
     if elsewhere:
         return elsewhere
     if "from" in of_table and tokens & TWO_WAYS:
@@ -369,6 +410,11 @@ def _why_it_matters(sheet: Sheet, place: int, kinds: Tuple[Sequence[str], Sequen
         return "what enters an arc leaves it whole, nothing is lost or gained on the way"
     if "cost" in of_table and tokens & FIXED:
         return "what is paid once, however much flows, can't be said: a cost is that of a unit"
+    if "cost" in open_kinds and _is_rent(header):
+        return (
+            "what is paid for a time, however much flows, can't be said; if it is what a unit costs, "
+            f"`--columns cost={quoted(header)}` says so"
+        )
     if tokens & SWITCHES and not _telling(name, open_kinds):
         return "each row counts; give the table without those that do not"
     if tokens & PARTS and len(_cells_of(sheet, place)) > 1:
@@ -382,13 +428,13 @@ def _why_it_matters(sheet: Sheet, place: int, kinds: Tuple[Sequence[str], Sequen
     return f"it looks like {called(what)}; `--columns {what}={quoted(header)}` says so" if what else ""
 
 
-def _of_other_table(tokens: Collection[str], kinds: Sequence[str]) -> str:
+def _of_other_table(tokens: Collection[str], header: str, kinds: Sequence[str]) -> str:
     """Why a column matters that belongs in the other table."""
     things = {what for token in tokens for what in _WORDS.get(token, ())}
     if "from" in kinds and things & {"supply", "demand"}:
         return "supplies and demands stand in the table of nodes, with a row for each node"
     if "node" in kinds:
-        if not (COSTLY | EARNINGS).isdisjoint(tokens):
+        if not (COSTLY | EARNINGS).isdisjoint(tokens) or _is_money(header):
             things.add("cost")
         for what in ("low", "capacity", "cost"):
             if what in things:

@@ -72,13 +72,23 @@ class Unit(NamedTuple):
         return None if self.per else self
 
     def of_cost(self, *, is_named: bool) -> Optional[Unit]:
-        """The unit as that of a cost; None where it is none, as of a rate in tonnes a day. Where a column `is_named` a
-        cost, a unit of amounts is what it is for: `cost_t` is one for each tonne."""
+        """The unit as that of a cost; None where it is none, as of a rate in tonnes a day, or of what is paid for a
+        time. Where a column `is_named` a cost, a unit of amounts is what it is for: `cost_t` is one for each tonne."""
         if self.base not in _SAME:
-            return self
+            return None if self.is_for_a_time else self
         if self.per or self.time or not is_named:
             return None
         return Unit(f"per {self.text}", "", frozenset((self.base,)), "")
+
+    @property
+    def is_money(self) -> bool:
+        """Whether it says what is paid."""
+        return self.base != "" and self.base not in _SAME
+
+    @property
+    def is_for_a_time(self) -> bool:
+        """Whether it is what is paid for a time, and not for an amount, as a rent is."""
+        return self.base not in _SAME and self.time != "" and not self.per
 
     @property
     def is_of_many(self) -> bool:
@@ -139,7 +149,7 @@ def unit_of(text: str) -> Optional[Unit]:
             return None
     if of_per or not base and not per and not time:
         return None
-    text = re.sub(r"^(in|en)\s+", "", text.strip(" _-.:"), flags=re.IGNORECASE)
+    text = re.sub(r"^(in|en)\s+", "", " ".join(text.split()).strip(" _-.:"), flags=re.IGNORECASE)
     return Unit(text, scale + base, frozenset(per), time)
 
 

@@ -114,6 +114,8 @@ def _of_number(value: Any) -> Decimal:
         return _decimal_of(value)
     if hasattr(value, "__index__"):
         return Decimal(operator.index(value))
+    if not hasattr(value, "__float__"):
+        raise TypeError  # As a period of pandas, which is written as its year.
     return Decimal(str(value))
 
 

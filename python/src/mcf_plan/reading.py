@@ -2,9 +2,9 @@
 
 from __future__ import annotations
 
-import itertools
 from dataclasses import dataclass, field
 from decimal import Decimal
+from itertools import islice
 from typing import Dict, Iterable, List, Mapping, Optional, Sequence, Tuple, Union
 
 from .cells import (
@@ -16,6 +16,7 @@ from .cells import (
     Sign,
     TableFault,
     Undecided,
+    bare,
     decimal_sign,
     is_truth,
     name_of,
@@ -143,7 +144,7 @@ class Table:
             if what in OPTIONAL or what == "cost" and self.reading.default_cost is not None:
                 continue
             rows = (row for row, cell in enumerate(sheet.columns[place]) if cell is LACKING)
-            lacking += [(row, what) for row in itertools.islice(rows, 1)]
+            lacking += [(row, what) for row in islice(rows, 1)]
         if lacking:
             row, what = min(lacking, key=lambda pair: pair[0])
             header, hint = sheet.header[self.found.places[what]], HINTS.get(what, "")
@@ -202,7 +203,7 @@ class Table:
         if not self.has(what):
             return [None] * len(self)
         limits = Numbers(self._reader().sign, has_limits=True)
-        limits.grouped = self._reader().grouped
+        limits.grouped, limits.parted = self._reader().grouped, self._reader().parted
         return self._looked_up(what, limits)
 
     def _looked_up(self, what: str, numbers: Numbers) -> List[Optional[Decimal]]:
@@ -284,13 +285,16 @@ class Table:
         """The row and the column of the first cell that is this text."""
         for what in columns:
             for row, each in enumerate(self.sheet.columns[self.found.places[what]]):
-                if isinstance(each, str) and each.strip() == cell:
+                if isinstance(each, str) and bare(each) == cell:
                     return row, what
         raise AssertionError(f"no cell is {cell!r}")
 
     def tell_sign(self) -> None:
         """Notes how numbers were read that might have been read otherwise."""
         numbers, sheet = self._numbers, self.sheet
+        for cell, number in islice(() if numbers is None else numbers.parted.items(), 1):
+            by = "apostrophes" if "'" in cell or "\u2019" in cell else "blanks"
+            sheet.notes.append(f"{sheet.name}: {by} part the thousands of numbers, so {shown(cell)} is {plain(number)}")
         if numbers is None or not numbers.sign.shown_by:
             return
         mark = {".": "point", ",": "comma"}[numbers.sign.mark]

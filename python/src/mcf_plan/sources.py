@@ -6,7 +6,7 @@ from pathlib import Path
 from typing import Any, Optional, Sequence, Tuple, Union
 
 from .cells import TableFault
-from .columns import folded
+from .columns import folded, match_of
 from .sheets import MAPS, WORKBOOKS, Sheet, check_ending, part_sheet, read_text, sheet_of_frame
 
 Source = Union[str, Path, Any]
@@ -76,6 +76,8 @@ def _both_of_workbook(path: Path) -> Tuple[Optional[Sheet], Sheet]:
     nodes = [each for each in there if folded(each) in NODE_SHEETS]
     arcs = [each for each in there if folded(each) in ARC_SHEETS]
     if len(nodes) != 1 or len(arcs) != 1 or nodes == arcs:
+        if len(there) == 2:
+            return _by_columns(path, there)
         raise TableFault(_which_sheet(path, there))
     sheets = read_sheet(path, nodes[0]), read_sheet(path, arcs[0])
     rest = [repr(each) for each in there if each not in (nodes[0], arcs[0])]
@@ -85,6 +87,26 @@ def _both_of_workbook(path: Path) -> Tuple[Optional[Sheet], Sheet]:
     return sheets
 
 
+def _by_columns(path: Path, there: Sequence[str]) -> Tuple[Sheet, Sheet]:
+    """The sheets of nodes and of arcs of a workbook that has two, by their columns, where their names do not say it."""
+    from .workbook import read_sheet
+
+    nodes, arcs = read_sheet(path, there[0]), read_sheet(path, there[1])
+    if _says(nodes, "from") and _says(nodes, "to"):
+        nodes, arcs = arcs, nodes
+    if not (_says(arcs, "from") and _says(arcs, "to")) or _says(nodes, "from") or _says(nodes, "to"):
+        raise TableFault(_which_sheet(path, there))
+    if not _says(nodes, "node") or not _says(nodes, "supply") and not _says(nodes, "demand"):
+        raise TableFault(_which_sheet(path, there))
+    arcs.notes.append(f"{nodes.name} has the nodes, and {arcs.name} the arcs, by the names of their columns")
+    return nodes, arcs
+
+
+def _says(sheet: Sheet, what: str) -> bool:
+    """Whether the name of a column says this."""
+    return any(match_of(header, [what]) for header in sheet.header)
+
+
 def sheets_read(path: Path, name: Optional[str]) -> Sequence[str]:
     """The names of the sheets of a workbook that are read where it is named, alone or with one of its sheets."""
     from .workbook import sheet_names
@@ -92,7 +114,7 @@ def sheets_read(path: Path, name: Optional[str]) -> Sequence[str]:
     if name is not None:
         return [name]
     there = sheet_names(path)
-    return there if len(there) == 1 else [each for each in there if folded(each) in (*NODE_SHEETS, *ARC_SHEETS)]
+    return there if len(there) <= 2 else [each for each in there if folded(each) in (*NODE_SHEETS, *ARC_SHEETS)]
 
 
 def _which_sheet(path: Path, there: Sequence[str]) -> str:

@@ -31,6 +31,11 @@ if TYPE_CHECKING:
 
 __all__ = ["COLUMNS", "PLAN_COLUMNS", "Source", "TableFault", "plan_rows", "read_tables", "write_plan"]
 
+TIME = re.compile(
+    r"(\d{4}-\d\d-\d\d|\d{1,2}[./]\d{1,2}[./]\d{2,4})?[ T]?(\d{1,2}:\d\d(:\d\d)?( ?[ap]m)?)?", re.ASCII | re.IGNORECASE
+)
+"""A date, a time of the day, or both."""
+
 ROW_OF_SUMS = "this looks like a row of sums: give the table without it"
 
 
@@ -69,7 +74,10 @@ def read_tables(
     _check_shape(node_sheet, arc_sheet, reading)
     _check_chosen(reading, node_sheet, arc_sheet)
     unused = ("cost",) if kind == "max" else ()
-    arc_table = Table(arc_sheet, find_columns(arc_sheet, ARC_COLUMNS, reading.columns, unused=unused), reading)
+    arc_columns = find_columns(
+        arc_sheet, ARC_COLUMNS, reading.columns, unused=unused, is_assignment=problem.kind == "asn"
+    )
+    arc_table = Table(arc_sheet, arc_columns, reading)
     tails, heads = arc_table.names("from"), arc_table.names("to")
     ends = dict.fromkeys(chain.from_iterable(zip(tails, heads)))
     node_table = None
@@ -84,6 +92,7 @@ def read_tables(
         for name in ends:
             if name not in problem.nodes and folded(name) in SUMS and name in tails:
                 raise arc_table.fault(tails.index(name), "from", ROW_OF_SUMS)
+    _check_times(problem, arc_table, tails, heads)
     compare_units({**({} if node_table is None else _units(node_table)), **_units(arc_table)}, are_all=True)
     _add_ends(problem, ends, node_sheet, arc_sheet)
     _read_arcs(problem, arc_table, tails, heads)
@@ -143,6 +152,20 @@ def _check_chosen(reading: Reading, nodes: Optional[Sheet], arcs: Sheet) -> None
     for name in reading.columns.get("aside", ()):
         if folded(name) not in there:
             raise TableFault(f"there is no column {name!r} to be left aside")
+
+
+def _check_times(problem: Problem, table: Table, tails: Sequence[str], heads: Sequence[str]) -> None:
+    """Raises TableFault where both ends of each arc are times or dates, as those of a shift, and no nodes that are known
+    otherwise."""
+    known = {*problem.nodes, problem.source, problem.sink}
+    names = {*tails, *heads}
+    if known.isdisjoint(names) and all(map(TIME.fullmatch, names)):
+        raise table.fault(
+            0,
+            "from",
+            "this looks like a time, and no node: `--columns from=NAME,to=NAME` names the columns of the nodes; if it is "
+            "one, list it in the table of nodes",
+        )
 
 
 def _find_names(table: Table, ends: Iterable[str]) -> None:
@@ -206,6 +229,9 @@ def _read_nodes(problem: Problem, table: Table, ends: Collection[str]) -> None:
         if folded(name) in SUMS and name not in ends:
             raise table.fault(row, "node", ROW_OF_SUMS)
     supplies, demands = table.numbers("supply"), table.numbers("demand")
+    for row, name in enumerate(names):
+        if name not in ends and (supplies[row] or demands[row]) and not SUMS.isdisjoint(folded(name).split()):
+            raise table.fault(row, "node", ROW_OF_SUMS)
     if table.has("supply") and table.has("demand"):
         for row, (supply, demand) in enumerate(zip(supplies, demands)):
             if demand < 0:
@@ -253,17 +279,21 @@ def _check_signs(table: Table, supplies: Sequence[Decimal]) -> None:
 def _add_ends(problem: Problem, ends: Iterable[str], nodes: Optional[Sheet], arcs: Sheet) -> None:
     """Adds the nodes that the table of arcs alone has. Notes those that may be one, written in two ways."""
     alone = [end for end in ends if end not in problem.nodes]
-    listed = {_alike(name): name for name in problem.nodes} if alone else {}
+    listed = {spelled: name for name in problem.nodes for spelled in _spelled(_alike(name))} if alone else {}
     for end in alone:
-        other = listed.get(_alike(end))
-        if other is not None:
+        for other in [listed[spelled] for spelled in _spelled(_alike(end)) if spelled in listed]:
             raise TableFault(
                 f"the table of arcs has a node {end!r}, and the table of nodes {other!r}: if they are one, write them "
                 "alike; if they are two, list both in the table of nodes"
             )
         problem.nodes[end] = ZERO
     written: Dict[str, str] = {}
-    twins = [(other, end) for end in alone for other in [written.setdefault(_folded_name(end), end)] if other != end]
+    twins = []
+    for end in alone:
+        spellings = _spelled(_folded_name(end))
+        twins += [(written[spelled], end) for spelled in spellings if spelled in written][:1]
+        for spelled in spellings:
+            written.setdefault(spelled, end)
     if twins:
         more = f" (and {len(twins) - 1} more)" if len(twins) > 1 else ""
         arcs.notes.append(f"{arcs.name}: the nodes {twins[0][0]!r} and {twins[0][1]!r} count as two{more}")
@@ -297,6 +327,22 @@ def _alike(name: str) -> str:
     (True, True, False)
     """
     return re.sub(r"\W+", " ", _folded_name(name)).strip() or name
+
+
+def _spelled(name: str) -> List[str]:
+    """The ways to spell a name, in small letters, without letters that a keyboard may lack: without their accents, and
+    umlauts with an e.
+
+    >>> _spelled("köln"), _spelled("besançon"), _spelled("ulm")
+    (['koln', 'koeln'], ['besancon'], ['ulm'])
+    """
+    if name.isascii():
+        return [name]
+    spelled = unicodedata.normalize("NFC", name)
+    for letter, pair in (("ä", "ae"), ("ö", "oe"), ("ü", "ue")):
+        spelled = spelled.replace(letter, pair)
+    bare = (re.sub("[\u0300-\u036f]", "", unicodedata.normalize("NFKD", text)) for text in (name, spelled))
+    return list(dict.fromkeys(bare))
 
 
 def _folded_name(name: str) -> str:
@@ -387,6 +433,7 @@ def _check_sense(problem: Problem, nodes: Optional[Table], arcs: Table, ends: Co
     if problem.kind != "min" or any(problem.nodes.values()) or any(arc.low or arc.cost < 0 for arc in problem.arcs):
         if problem.kind == "min" and nodes is not None:
             _tell_lonely(problem, nodes, ends)
+            _tell_one_side(problem, nodes)
         return
     if nodes is None:
         raise TableFault(
@@ -394,6 +441,14 @@ def _check_sense(problem: Problem, nodes: Optional[Table], arcs: Table, ends: Co
             "nodes before it (`--kind max` and `--kind asn` want none)"
         )
     problem.notes.append(f"{nodes.sheet.name}: no node supplies or demands anything, so nothing has to flow")
+
+
+def _tell_one_side(problem: Problem, nodes: Table) -> None:
+    """Notes that all nodes supply, or all demand."""
+    for does, sign in (("demands", 1), ("supplies", -1)):
+        if problem.balance == "equal" and all(supply * sign >= 0 for supply in problem.nodes.values()):
+            if any(problem.nodes.values()):
+                problem.notes.append(f"{nodes.sheet.name}: no node {does} anything; a demand is a supply below 0")
 
 
 def _tell_lonely(problem: Problem, nodes: Table, ends: Collection[str]) -> None:

@@ -80,6 +80,18 @@ STAND_INS: Dict[str, Tuple[str, ...]] = {
 }
 """Names of columns that are taken where no other column is that thing, which is told."""
 
+OF_ASSIGNMENTS: Dict[str, Tuple[str, ...]] = {
+    "from": ("person", "worker", "employee", "agent", "driver", "nurse", "volunteer", "applicant", "candidate")
+    + ("Mitarbeiter", "Mitarbeiterin", "Arbeiter", "Fahrer", "Bewerber")
+    + ("personne", "employé", "salarié", "chauffeur", "candidat")
+    + ("persona", "empleado", "trabajador", "candidato"),
+    "to": ("shift", "task", "job", "duty", "project")
+    + ("Schicht", "Aufgabe", "Auftrag", "Dienst", "Projekt")
+    + ("poste", "tâche", "projet")
+    + ("turno", "tarea", "puesto", "proyecto"),
+}
+"""The same for the ends of the arcs of an assignment, whose two sides may change places."""
+
 NODE_COLUMNS = ("node", "supply", "demand", "x", "y")
 ARC_COLUMNS = ("from", "to", "low", "capacity", "cost", "name")
 ENDS = ("node", "from", "to")
@@ -99,6 +111,36 @@ HARMLESS = frozenset(
     ).split()
 )
 """Columns that are left aside without a look at the words in their names."""
+
+WORDY = frozenset(
+    (
+        "comment comments note notes remark remarks info description type class mode "
+        "kommentar bemerkung bemerkungen anmerkung notiz hinweis typ art "
+        "commentaire commentaires remarque remarques comentario comentarios observaciones nota notas tipo "
+    ).split()
+)
+"""Columns of which each cell is looked at, since it may say of its row what other columns have as headings."""
+
+CLOSED = frozenset(
+    (
+        "closed;inactive;blocked;disabled;suspended;cancelled;canceled;forbidden;not allowed;not in use;do not use;"
+        "out of service;out of order;unavailable;not available;"
+        "geschlossen;gesperrt;inaktiv;verboten;ausser betrieb;nicht verfugbar;entfallt;entfallen;gestrichen;"
+        "ferme;fermee;interdit;interdite;hors service;supprime;supprimee;"
+        "cerrado;cerrada;prohibido;prohibida;fuera de servicio;suspendido;suspendida"
+    ).split(";")
+)
+"""What a cell says of a row that does not count."""
+
+BOTH_WAYS = frozenset(
+    (
+        "both;both ways;both directions;two way;twoway;bidirectional;undirected;"
+        "beide;beide richtungen;beidseitig;gegenverkehr;hin und zuruck;"
+        "double sens;deux sens;les deux sens;bidirectionnel;bidirectionnelle;aller retour;"
+        "ambos;ambos sentidos;doble sentido;bidireccional;ida y vuelta"
+    ).split(";")
+)
+"""What a cell says of an arc that leads both ways."""
 
 TWO_WAYS = frozenset(
     (
@@ -193,7 +235,7 @@ DITTO = frozenset(('"', "''", "\u2033", "\u3003", "\u201c", "\u201d", "dito", "d
 SUMS = frozenset(
     (
         "total;totals;sum;sums;grand total;subtotal;sub total;summe;gesamt;insgesamt;gesamtsumme;zwischensumme;ergebnis;"
-        "gesamtergebnis;teilergebnis;somme;sous total;total general;suma;suma total"
+        "gesamtergebnis;teilergebnis;somme;sous total;total general;suma;suma total;σ;∑"
     ).split(";")
 )
 """Names of rows that hold sums of the others."""
