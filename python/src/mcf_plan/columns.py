@@ -417,7 +417,8 @@ def _why_it_matters(sheet: Sheet, place: int, kinds: Tuple[Sequence[str], Sequen
         )
     if tokens & SWITCHES and not _telling(name, open_kinds):
         return "each row counts; give the table without those that do not"
-    if tokens & PARTS and len(_cells_of(sheet, place)) > 1:
+    # Where no ends of arcs are found, that is the first thing to be told.
+    if tokens & PARTS and not {"from", "to"} & set(open_kinds) and len(_cells_of(sheet, place)) > 1:
         return "all rows are one problem; give those of one plan alone"
     if "cost" in of_table and tokens & EARNINGS:
         return "what a unit earns is a cost below 0: take it off the cost"

@@ -9,6 +9,7 @@ from __future__ import annotations
 import csv
 import re
 import unicodedata
+from collections import Counter
 from decimal import Decimal
 from io import StringIO
 from itertools import chain
@@ -16,7 +17,7 @@ from pathlib import Path
 from typing import TYPE_CHECKING, Any, Collection, Dict, Iterable, List, Mapping, Optional, Sequence, Set, Tuple, Union
 
 from .cells import TableFault, is_empty, limit_fault, name_of
-from .columns import called, compare_units, find_columns, folded
+from .columns import called, compare_units, find_columns, folded, quoted
 from .formats import counted
 from .outputs import write_text
 from .problem import ONE, WIDE, ZERO, Arc, Number, Problem, exact, plain
@@ -24,7 +25,7 @@ from .reading import Reading, Table, no_column
 from .rounding import round_problem
 from .sheets import WORKBOOKS, Sheet, is_table, part_sheet
 from .sources import Source, find_sheets, sheets_read
-from .vocabulary import ARC_COLUMNS, COLUMNS, DEMANDING, NODE_COLUMNS, SUMS
+from .vocabulary import ARC_COLUMNS, COLUMNS, DEMANDING, HARMLESS, NODE_COLUMNS, SUMS, TIMES
 
 if TYPE_CHECKING:
     from .plan import Plan
@@ -35,6 +36,9 @@ TIME = re.compile(
     r"(\d{4}-\d\d-\d\d|\d{1,2}[./]\d{1,2}[./]\d{2,4})?[ T]?(\d{1,2}:\d\d(:\d\d)?( ?[ap]m)?)?", re.ASCII | re.IGNORECASE
 )
 """A date, a time of the day, or both."""
+
+PERIOD = re.compile(r"\s*[+-]?\d|\s*[A-Za-z]{1,2}\d+\s*$", re.ASCII)
+"""A number, a date, a time, or a short name with a number, as Q1."""
 
 ROW_OF_SUMS = "this looks like a row of sums: give the table without it"
 
@@ -93,6 +97,7 @@ def read_tables(
             if name not in problem.nodes and folded(name) in SUMS and name in tails:
                 raise arc_table.fault(tails.index(name), "from", ROW_OF_SUMS)
     _check_times(problem, arc_table, tails, heads)
+    _check_periods(arc_table, tails, heads)
     compare_units({**({} if node_table is None else _units(node_table)), **_units(arc_table)}, are_all=True)
     _add_ends(problem, ends, node_sheet, arc_sheet)
     _read_arcs(problem, arc_table, tails, heads)
@@ -166,6 +171,29 @@ def _check_times(problem: Problem, table: Table, tails: Sequence[str], heads: Se
             "this looks like a time, and no node: `--columns from=NAME,to=NAME` names the columns of the nodes; if it is "
             "one, list it in the table of nodes",
         )
+
+
+def _check_periods(table: Table, tails: Sequence[str], heads: Sequence[str]) -> None:
+    """Raises TableFault where each value of a column of numbers, dates or times that is left aside stands beside the same
+    arcs, two or more, as in a table of several periods."""
+    pairs = list(zip(tails, heads))
+    times = Counter(pairs)
+    each = len(pairs) // len(times)
+    if each < 2 or len(times) < 2 or set(times.values()) != {each}:
+        return
+    sheet, found = table.sheet, table.found
+    for place, header in enumerate(sheet.header):
+        name = folded(header)
+        if place in found.places.values() or place in found.told or name in HARMLESS - TIMES:
+            continue
+        cells = list(map(str, sheet.columns[place]))
+        values = set(cells)
+        if len(values) == each and all(map(PERIOD.match, values)) and len(set(zip(pairs, cells))) == len(pairs):
+            raise TableFault(
+                f"{sheet.name}: the same {counted(len(times), 'arc')} stand beside each value of the column {header!r}, as in "
+                "a table of several periods: all rows are one problem; give those of one plan alone; "
+                f"`--columns aside={quoted(header)}` leaves the column aside"
+            )
 
 
 def _find_names(table: Table, ends: Iterable[str]) -> None:

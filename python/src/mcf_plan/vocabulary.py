@@ -142,6 +142,9 @@ BOTH_WAYS = frozenset(
 )
 """What a cell says of an arc that leads both ways."""
 
+TIMES = frozenset("time hours zeit dauer duration temps duree heures tiempo duracion horas".split())
+"""Columns of those that are left aside without a look that may be the time that a row is for."""
+
 TWO_WAYS = frozenset(
     (
         "oneway both bothways bidirectional directed direction undirected twoway reverse richtung einbahn sens "
@@ -175,10 +178,12 @@ PARTS = frozenset(
     (
         "unit units uom currency ccy product products commodity commodities good goods item items material article sku "
         "grade quality period periods day days week weeks month quarter date year scenario variant version case "
+        "hour season term run shift snapshot "
         "einheit einheiten mengeneinheit me wahrung wahrg whrg produkt ware material artikel sorte qualitat tag woche kw "
-        "monat quartal datum jahr periode szenario variante "
-        "unite devise produit article qualite jour semaine mois trimestre periode scenario variante "
-        "unidad moneda producto articulo calidad dia semana mes trimestre fecha ano periodo escenario variante "
+        "monat quartal datum jahr periode szenario variante stunde saison jahreszeit lauf schicht stichtag "
+        "unite devise produit article qualite jour semaine mois trimestre periode scenario variante heure saison "
+        "unidad moneda producto articulo calidad dia semana mes trimestre fecha ano periodo escenario variante hora "
+        "temporada turno "
     ).split()
 )
 """Columns that part a table in several problems, where more than one thing stands in them."""
