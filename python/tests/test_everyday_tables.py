@@ -199,6 +199,33 @@ class Workbooks(InFolder):
             ("a colour", lambda sheet: setattr(sheet["C2"], "number_format", "[Red]0;[Blue]-0"), "cost 12.5"),
             ("a currency", lambda sheet: setattr(sheet["D2"], "number_format", '#,##0.00 "days"'), "cost 12.5"),
             (
+                "two currencies",
+                lambda sheet: sheet.append(["Kiel", "Berlin", 9, 3])
+                or setattr(sheet["D2"], "number_format", "#,##0.00\\ [$€-407]")
+                or setattr(sheet["D3"], "number_format", "[$$-409]#,##0.00"),
+                r"row 3, column 'cost': 3 stands there; it is shown in \$, and that on row 2 in €: bring all to one unit",
+            ),
+            (
+                "two units of a column that is left aside",
+                lambda sheet: sheet.append(["Kiel", "Berlin", 9, 3, 7])
+                or [sheet.cell(1, 5, "km"), sheet.cell(2, 5, 8)]
+                and setattr(sheet["E2"], "number_format", '0 "km"')
+                or setattr(sheet["E3"], "number_format", '0 "miles"'),
+                "cost 12.5",
+            ),
+            (
+                "a unit in some cells",
+                lambda sheet: sheet.append(["Kiel", "Berlin", 9, 3])
+                or setattr(sheet["D3"], "number_format", '#,##0.00 "€"'),
+                "cost 12.5",
+            ),
+            (
+                "a cost for another unit than that of the capacity",
+                lambda sheet: setattr(sheet["C2"], "number_format", '0 "kg"')
+                or setattr(sheet["D2"], "number_format", '0.00 "€/t"'),
+                "column 'cost', is in €/t, and .*column 'capacity', in kg: bring costs and amounts to one unit",
+            ),
+            (
                 "a hidden row",
                 lambda sheet: setattr(sheet.row_dimensions[2], "hidden", True),
                 "1 row that is hidden counts",

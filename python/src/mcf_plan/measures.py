@@ -19,7 +19,8 @@ _SAME: Dict[str, str] = {
     "unit": "unit units piece pieces pc pcs stk stück stueck stuck einheit einheiten ea each unite unites unidad "
     "unidades ud uds pieza piezas",
     "pallet": "pallet pallets palette palettes paletten pal pale pales",
-    "container": "container containers teu contenedor contenedores conteneur conteneurs",
+    "container": "container containers contenedor contenedores conteneur conteneurs",
+    "teu": "teu evp",
     "box": "box boxes kiste kisten caja cajas caisse caisses carton cartons",
     "truck": "truck trucks lkw camion camions camiones",
     "mw": "mw",

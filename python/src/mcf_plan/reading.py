@@ -208,6 +208,7 @@ class Table:
 
     def _looked_up(self, what: str, numbers: Numbers) -> List[Optional[Decimal]]:
         """The numbers of a column's cells. Truth values are refused first: they are equal to 0 and 1."""
+        self._check_shown_units(what)
         cells = self.sheet.columns[self.found.places[what]]
         if any(each.__name__ in ("bool", "bool_") for each in set(map(type, cells))):
             row = next(row for row, cell in enumerate(cells) if is_truth(cell))
@@ -227,6 +228,17 @@ class Table:
                     )
                 raise self.fault(row, what, expected) from None
         raise AssertionError("a cell was refused, and now none is")
+
+    def _check_shown_units(self, what: str) -> None:
+        """Raises TableFault where a workbook shows the numbers of a column in several units."""
+        units = list(self.sheet.units.get(self.found.places[what], {}).items())
+        if len(units) > 1:
+            (unit, first), (other, row) = units[:2]
+            raise self.fault(
+                row,
+                what,
+                f"it is shown in {other}, and that on {self.sheet.place(first)} in {unit}: bring all to one unit",
+            )
 
     def _reader(self) -> Numbers:
         """What reads the numbers of the table, by its decimal sign."""

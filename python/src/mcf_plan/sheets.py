@@ -29,7 +29,8 @@ class Sheet:
 
     `name` is what messages call it. `lines` says where each row stands, as a number of lines, rows or features, by
     `word`. `missing` has the places that a row lacks, by the number of the row from 0. `index` are the names that a
-    frame, or a first column without a name, has for its rows.
+    frame, or a first column without a name, has for its rows. `units` are those that a workbook shows behind or before
+    the numbers of a column, each with the first row that has it.
     """
 
     name: str
@@ -41,6 +42,7 @@ class Sheet:
     missing: Dict[int, FrozenSet[int]] = field(default_factory=dict)
     index: Optional[Sequence[Any]] = None
     index_name: str = ""
+    units: Dict[int, Dict[str, int]] = field(default_factory=dict)
     notes: List[str] = field(default_factory=list)
 
     def place(self, row: int) -> str:

@@ -19,6 +19,7 @@ from typing import TYPE_CHECKING, Any, Collection, Dict, Iterable, List, Mapping
 from .cells import TableFault, is_empty, limit_fault, name_of
 from .columns import called, compare_units, find_columns, folded, quoted
 from .formats import counted
+from .measures import unit_of
 from .outputs import write_text
 from .problem import ONE, WIDE, ZERO, Arc, Number, Problem, exact, plain
 from .reading import Reading, Table, no_column
@@ -39,6 +40,8 @@ TIME = re.compile(
 
 PERIOD = re.compile(r"\s*[+-]?\d|\s*[A-Za-z]{1,2}\d+\s*$", re.ASCII)
 """A number, a date, a time, or a short name with a number, as Q1."""
+
+AMOUNTS_AND_COSTS = ("supply", "demand", "low", "capacity", "cost")
 
 ROW_OF_SUMS = "this looks like a row of sums: give the table without it"
 
@@ -236,9 +239,16 @@ def _find_names(table: Table, ends: Iterable[str]) -> None:
 
 
 def _units(table: Table) -> Dict[str, Any]:
-    """The units of the columns of a table, as `compare_units` takes them."""
+    """The units of the columns of a table, as `compare_units` takes them: those in their names, and those that a workbook
+    shows with their numbers."""
     sheet, found = table.sheet, table.found
-    return {what: (unit, sheet, sheet.header[found.places[what]]) for what, unit in found.units.items()}
+    units = dict(found.units)
+    for what, place in found.places.items():
+        shown = unit_of(next(iter(sheet.units.get(place, ())), ""))
+        if shown is not None and what not in units and what in AMOUNTS_AND_COSTS:
+            unit = shown.of_cost(is_named=True) if what == "cost" else shown.of_amount()
+            units.update({} if unit is None else {what: unit})
+    return {what: (unit, sheet, sheet.header[found.places[what]]) for what, unit in units.items()}
 
 
 # ---------------------------------------------------------------- rows

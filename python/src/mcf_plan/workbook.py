@@ -75,6 +75,7 @@ def read_sheet(path: Path, name: str) -> Sheet:
         rows, lines = reader.rows(found[0].part)
     title = path.name if len(tabs) == 1 else f"{path.name}, sheet {found[0].name!r}"
     sheet = sheet_of_rows(title, rows, lines)
+    sheet.units = reader.units
     if found[0].is_hidden:
         sheet.notes.append(f"{path.name}: the sheet {found[0].name!r} is hidden, and counts")
     sheet.notes += [f"{title}: {words}" for words in reader.unseen(sheet.header)]
@@ -160,7 +161,8 @@ class _Reader:
         self.hidden_columns: Set[int] = set()
         parts = dict(_relations(file).values())
         self.texts = [_text_of(each) for each in self._elements(parts.get("sharedStrings"), "si")]
-        self.looks = self._looks(parts.get("styles"))
+        self.looks, self.units_of_styles = self._looks(parts.get("styles"))
+        self.units: Dict[int, Dict[str, int]] = {}  # Those of each column, with the first row below the header.
         self.struck_styles = self._struck_styles(parts.get("styles"))
         of_1904 = any(each.get("date1904") in ("1", "true") for each in self._elements(WORKBOOK, "workbookPr"))
         self.day_0 = DAY_0_OF_1904 if of_1904 else DAY_0
@@ -169,16 +171,14 @@ class _Reader:
         if part is not None and part in self.file.namelist():
             yield from (each for each in _parsed(self.file, part).iter() if _local(each) == name)
 
-    def _looks(self, part: Any) -> List[str]:
-        """What the cells of a style are, by the number of the style: 'date', 'percent', or '' for a plain number."""
-        own = {
-            int(each.get("numFmtId", "0")): _look_of(each.get("formatCode", ""))
-            for each in self._elements(part, "numFmt")
-        }
+    def _looks(self, part: Any) -> Tuple[List[str], List[str]]:
+        """What the cells of a style are, by the number of the style: 'date', 'percent', or '' for a plain number; and the
+        unit that is shown with them, '' where there is none."""
+        codes = {int(each.get("numFmtId", "0")): each.get("formatCode", "") for each in self._elements(part, "numFmt")}
+        own = {number: _look_of(code) for number, code in codes.items()}
         kept = {**dict.fromkeys(DATE_FORMATS, "date"), **dict.fromkeys(PERCENT_FORMATS, "percent"), **own}
-        return [
-            kept.get(int(each.get("numFmtId", "0")), "") for group in self._elements(part, "cellXfs") for each in group
-        ]
+        styles = [int(each.get("numFmtId", "0")) for group in self._elements(part, "cellXfs") for each in group]
+        return [kept.get(number, "") for number in styles], [_unit_in(codes.get(number, "")) for number in styles]
 
     def _struck_styles(self, part: Any) -> FrozenSet[str]:
         """The numbers of the styles whose texts are struck through."""
@@ -216,7 +216,7 @@ class _Reader:
                         first, last = int(element.get("min", "1")), int(element.get("max", "1"))
                         self.hidden_columns.update(range(first - 1, min(last, MOST_COLUMNS)))
                     elif kind == "row":
-                        cells = {place: cell for place, cell in self._cells(element) if not is_empty(cell)}
+                        cells = {place: cell for place, cell in self._cells(element, len(rows)) if not is_empty(cell)}
                         number = int(element.get("r") or number + 1)
                         if cells:
                             self.hidden += _is_hidden(element, "ht")
@@ -236,16 +236,20 @@ class _Reader:
         """Whether all that stands in a row is struck through."""
         return bool(self.struck_styles) and all(cell.get("s") in self.struck_styles for cell in row if len(cell))
 
-    def _cells(self, row: ElementTree.Element) -> Iterator[Tuple[int, Any]]:
-        """The cells of a row by their places from 0."""
-        place = -1
+    def _cells(self, row: ElementTree.Element, number: int) -> Iterator[Tuple[int, Any]]:
+        """The cells of a row by their places from 0; `number` is that of the row, 0 for the names of the columns."""
+        place, units = -1, self.units_of_styles
         for cell in row:
             if _local(cell) == "c":
                 name = cell.get("r")
                 place = place + 1 if name is None else _place(name)
                 if not 0 <= place < MOST_COLUMNS:
                     raise ValueError(f"there is no cell {name}")
-                yield place, self._value(cell)
+                value = self._value(cell)
+                style = int(cell.get("s", "0"))
+                if type(value) in (int, float) and style < len(units) and units[style]:
+                    self.units.setdefault(place, {}).setdefault(units[style], number - 1)
+                yield place, value
 
     def _value(self, cell: ElementTree.Element) -> Any:
         """The value of a cell: '' where it is empty, NoValue for a formula whose value was not kept."""
@@ -325,6 +329,17 @@ def _look_of(code: str) -> str:
     if "%" in bare:
         return "percent"
     return "date" if re.search(r"[dmyhs]", bare, re.IGNORECASE) and "general" not in bare.lower() else ""
+
+
+def _unit_in(code: str) -> str:
+    """The unit that a format of numbers shows with them, '' where there is none.
+
+    >>> _unit_in('#,##0.00 "t"'), _unit_in("#,##0.00\\\\ [$€-407]"), _unit_in('_-* #,##0\\\\ "€/t"_-'), _unit_in("0.00;[Red]-0.00")
+    ('t', '€', '€/t', '')
+    """
+    texts = re.findall(r'"([^"]*)"|\[\$([^\]-]*)[^\]]*\]|\\(.)|([€$£¥])', re.sub(r"_.|\*.", "", code).split(";")[0])
+    unit = "".join(part for parts in texts for part in parts).strip()
+    return unit if re.search(r"[^\W\d_]|[€$£¥]", unit) else ""
 
 
 def _date(days: float, day_0: datetime.datetime) -> Union[datetime.datetime, datetime.time, float]:
