@@ -54,13 +54,14 @@ class Match(NamedTuple):
 @dataclass
 class Found:
     """Which columns of a sheet hold what. `names` are the columns that may have the names of the nodes, where more than
-    one may. `told` are the things that were said for columns, by their places. `is_plan` says that mcf-plan wrote the
-    table."""
+    one may. `told` are the things that were said for columns, by their places, and `unknown` the places of columns that
+    say nothing that is understood. `is_plan` says that mcf-plan wrote the table."""
 
     places: Dict[str, int] = field(default_factory=dict)
     units: Dict[str, Unit] = field(default_factory=dict)
     names: List[int] = field(default_factory=list)
     told: Dict[int, str] = field(default_factory=dict)
+    unknown: List[int] = field(default_factory=list)
     is_plan: bool = False
 
 
@@ -124,6 +125,7 @@ def find_columns(
     found.is_plan = bool(own)
     told.update(dict.fromkeys(own - told.keys(), "aside"))
     matches, unknown, aside = _matched(sheet, kinds, told, unused, is_assignment)
+    found.unknown = unknown
     if not matches and not (sheet.index and "node" in kinds):
         raise TableFault(
             f"{sheet.name}: no column is understood; the names of the columns come first, and here they are "

@@ -184,10 +184,10 @@ def _check_periods(table: Table, tails: Sequence[str], heads: Sequence[str]) -> 
     each = len(pairs) // len(times)
     if each < 2 or len(times) < 2 or set(times.values()) != {each}:
         return
-    sheet, found = table.sheet, table.found
-    for place, header in enumerate(sheet.header):
-        name = folded(header)
-        if place in found.places.values() or place in found.told or name in HARMLESS - TIMES:
+    sheet = table.sheet
+    for place in table.found.unknown:
+        header = sheet.header[place]
+        if folded(header) in HARMLESS - TIMES:
             continue
         cells = list(map(str, sheet.columns[place]))
         values = set(cells)
