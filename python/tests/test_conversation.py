@@ -57,6 +57,12 @@ class Names(unittest.TestCase):
             ],
         )
 
+    def test_no_limit_in_words(self) -> None:
+        for word in ("inf", "∞", "unlimited", "Unbegrenzt", "'no limit'"):
+            self.assertEqual(answers(f"cap cheap {word}"), ["cost 5 (6 less)", "5 True"], word)
+            self.assertEqual(answers(f"add a b cost 1 cap {word}"), ["cost 5 (6 less)", "5 True"], word)
+        self.assertIn("has to be a decimal number", answers("cost cheap unlimited")[0])
+
     def test_the_minus_sign_of_a_text(self) -> None:
         self.assertEqual(answers("supply b \N{MINUS SIGN}4", "supply a 4"), answers("supply b -4", "supply a 4"))
 
@@ -171,12 +177,14 @@ class Words(unittest.TestCase):
     def test_what_is_not_understood(self) -> None:
         for line, reason in (
             ("undo 3", "undo stands alone, and 3 stands behind it"),
+            ("quit now", "quit stands alone, and now stands behind it"),
             ("cap", "cap wants an arc and a number; `help` tells more"),
             ("cap cheap", "cap wants an arc and a number; `help` tells more"),
             ("cap cheap 1,5", "1,5 is no number; write a point before the decimals, and nothing between thousands"),
             ("cap cheep 1", "there is no arc cheep; did you mean cheap?"),
             ("cap Cheap 1", "there is no arc Cheap; did you mean cheap?"),
             ("cap road9 1", "there is no arc road9"),
+            ("cap 'road 9' 1", "there is no arc road 9"),
             ("close cheapp", "there is no arc cheapp; did you mean cheap?"),
             ("add a cheapp cap 3", "there is no node cheapp; did you mean cheap?"),
             ("cap a to b 1", "there are several arcs a to b: say which by its number: they are #1, #2"),

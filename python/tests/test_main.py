@@ -764,10 +764,11 @@ class Command(unittest.TestCase):
         for words in (("plan", self.nodes, arcs), ("explain", self.nodes, arcs), ("ranges", self.nodes, arcs), asked):
             with self.subTest(words[0]):
                 self.assertRegex(self.run_it(*words, status=1)[0], "[Nn]o plan")
-        out, _ = self.run_it("what-if", self.nodes, arcs, text="why\nadd Kiel Bonn\nwrite a.min\n", status=3)
+        lines = "why\nadd Kiel Bonn\nwrite a.min\nadd Kiel Ulm\n"
+        out, _ = self.run_it("what-if", self.nodes, arcs, text=lines, status=3)
         self.assertIn("no plan: short by 4; `why` tells more\nwhat if> why\nThere is no plan", out)
-        self.assertIn("no plan: short by 3; `why` tells more\nwhat if> write a.min\nwritten to a.min\n", out)
-        self.assertIn("cost", out)
+        self.assertIn("no plan: short by 2.5; `why` tells more\nwhat if> write a.min\nwritten to a.min\n", out)
+        self.assertIn("refused, nothing is changed: there is no cheapest plan: around the circle Rom to Bari", out)
 
     def test_names_of_tables_that_are_none(self):
         for words, status, reason in (

@@ -9,6 +9,7 @@ from contextlib import ExitStack, suppress
 from decimal import Decimal
 from typing import Callable, Dict, List, Optional, Sequence, TextIO, Tuple
 
+from .cells import NO_LIMIT
 from .outputs import write_text
 from .plan import Infeasible
 from .printing import of_system, print_table, say, tell
@@ -35,6 +36,8 @@ Command = Callable[[List[str]], object]
 
 MOST_ALIKE = 5000
 """Among more names none that is alike is looked for: it takes seconds."""
+ENDS = ("quit", "exit", "q")
+"""Commands that end the conversation."""
 ALONE = ("undo", "redo", "show", "why", "saves", "moments", "group", "end", "help")
 """Commands that take no words."""
 WANTED = {
@@ -75,6 +78,11 @@ def number(text: str) -> str:
     return text.replace("\N{MINUS SIGN}", "-")
 
 
+def limit(text: str) -> str:
+    """A capacity as it was typed; no limit by the words that tables have for it."""
+    return "inf" if text.lower() in NO_LIMIT else number(text)
+
+
 def names_in(command: str, words: List[str]) -> List[str]:
     """The words behind a command that are names, and no numbers.
 
@@ -113,8 +121,8 @@ class Conversation:
         self.before: Optional[Decimal] = None  # the cost where the group began
         self.refusal: Optional[str] = None  # why the group is refused whose lines are passed over
         self.edits: Dict[str, Command] = {
-            "cap": lambda words: session.set_cap(self.arc(words[:-1]), number(words[-1])),
-            "capacity": lambda words: session.set_cap(self.arc(words[:-1]), number(words[-1])),
+            "cap": lambda words: session.set_cap(self.arc(words[:-1]), limit(words[-1])),
+            "capacity": lambda words: session.set_cap(self.arc(words[:-1]), limit(words[-1])),
             "low": lambda words: session.set_low(self.arc(words[:-1]), number(words[-1])),
             "cost": lambda words: session.set_cost(self.arc(words[:-1]), number(words[-1])),
             "supply": lambda words: session.set_supply(one(words[:-1]), number(words[-1])),
@@ -170,7 +178,7 @@ class Conversation:
             self.line += 1
             if not self.is_terminal and line.strip():
                 self.say(f"what if> {line.strip()}")
-            if line.strip() in ("quit", "exit", "q"):
+            if line.strip().lower() in ENDS:
                 break
             try:
                 self.answer(line)
@@ -236,6 +244,8 @@ class Conversation:
     def do(self, word: str, words: List[str]) -> None:
         """Does one command."""
         does_step = word in self.edits or word in self.steps
+        if word in ENDS:
+            raise EditRefused(f"{word} stands alone, and {' '.join(words)} stands behind it")
         if not does_step and word not in self.tells and word not in self.at_any_time:
             raise EditRefused(f"there is no command {word}; `help` tells them")
         if words and word in ALONE:
@@ -293,7 +303,7 @@ class Conversation:
                 raise EditRefused(f"{what} is none of capacity, cost, low and name")
             if known[what] in given:
                 raise EditRefused(f"{what} stands there twice, or under two names")
-            given[known[what]] = value if what == "name" else number(value)
+            given[known[what]] = value if what == "name" else limit(value) if known[what] == "cap" else number(value)
         self.session.add_arc(
             words[0],
             words[1],

@@ -82,7 +82,9 @@ def named_arc(problem: Problem, words: str) -> int:
         raise
     except KeyError as error:
         quoted = "" if len(parts) < 3 else "; names with blanks stand in quotes, as in '\"Bad Aibling\" Ulm'"
-        raise KeyError(f"{error.args[0]}{quoted}") from None
+        # A name with a blank in it is no two ends for who wrote it.
+        missing = f"there is no arc {words}" if len(parts) == 2 else error.args[0]
+        raise KeyError(f"{missing}{quoted}") from None
 
 
 def _parts_of(words: str) -> List[str]:
