@@ -12,11 +12,12 @@ from contextlib import suppress
 from dataclasses import dataclass, field
 from typing import Any, Collection, Dict, Iterable, List, Mapping, NamedTuple, Optional, Sequence, Set, Tuple
 
-from .cells import NO_LIMIT, TableFault, is_blank, is_empty
+from .cells import NO_LIMIT, YES_OR_NO, TableFault, is_blank, is_empty
 from .measures import Unit, is_amount, unit_of
 from .sheets import Sheet
 from .vocabulary import (
     AMOUNTS,
+    BESIDES,
     BOTH_WAYS,
     CLOSED,
     COLUMNS,
@@ -32,8 +33,11 @@ from .vocabulary import (
     OWN,
     OWN_OF_NODES,
     PARTS,
+    RANGING,
+    SCALES,
     STAND_INS,
     SWITCHES,
+    TIERS,
     TWO_WAYS,
     WORDY,
 )
@@ -422,6 +426,14 @@ def _why_it_matters(sheet: Sheet, place: int, kinds: Tuple[Sequence[str], Sequen
     # Where no ends of arcs are found, that is the first thing to be told.
     if tokens & PARTS and not {"from", "to"} & set(open_kinds) and len(_cells_of(sheet, place)) > 1:
         return "all rows are one problem; give those of one plan alone"
+    if tokens & BESIDES and _may_count(_cells_of(sheet, place) - {"0"}):
+        amount = "a capacity" if "capacity" in of_table else "a supply"
+        return f"it may change {amount}, or say which rows count: work it into the table"
+    if "cost" in of_table and name in SCALES and _cells_of(sheet, place) - {"1"}:
+        return "a cost is that of one unit: bring costs that are for many to one"
+    is_range = tokens & TIERS or tokens & RANGING and tokens & AMOUNTS
+    if "cost" in of_table and is_range and len(_cells_of(sheet, place)) > 1:
+        return "a cost that rises with the amount takes an arc for each range, with its room as capacity; none can fall"
     if "cost" in of_table and tokens & EARNINGS:
         return "what a unit earns is a cost below 0: take it off the cost"
     near = None if tokens & PARTS else _near(name, header, open_kinds)
@@ -458,6 +470,13 @@ def _telling(name: str, kinds: Sequence[str]) -> Optional[str]:
 def _has_word(name: str, word: str, least: int) -> bool:
     """Whether a word is one of a name's words, or a part of one where it has so many letters at least."""
     return word in name.split() or len(word) >= least and word in name.replace(" ", "")
+
+
+def _may_count(cells: Collection[str]) -> bool:
+    """Whether there are cells, and each has a number, or says yes or no."""
+    return bool(cells) and all(
+        re.match(r"\s*[+-]?[.,]?\d", cell) or cell.strip().lower() in YES_OR_NO | {"x"} for cell in cells
+    )
 
 
 def _may_be_capacity(sheet: Sheet, place: int) -> bool:

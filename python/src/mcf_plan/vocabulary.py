@@ -147,7 +147,8 @@ TIMES = frozenset("time hours zeit dauer duration temps duree heures tiempo dura
 
 TWO_WAYS = frozenset(
     (
-        "oneway both bothways bidirectional directed direction undirected twoway reverse richtung einbahn sens "
+        "oneway both bothways bidirectional bidir directed direction undirected twoway 2way symmetric symmetrical reverse "
+        "richtung einbahn sens "
         "sentido "
     ).split()
 )
@@ -157,6 +158,7 @@ SWITCHES = frozenset(
     (
         "active inactive open closed enabled disabled blocked usable status valid allowed permitted forbidden excluded "
         "exclude excluding include included including use delete deleted skip ignore ignored suspended cancelled "
+        "selected chosen relevant considered eligible applicable operational "
         "aktiv inaktiv offen gesperrt sperre geschlossen gultig erlaubt zulassig verboten "
         "actif ouvert ferme statut valide autorise interdit "
         "activo abierto cerrado estado valido permitido prohibido "
@@ -166,10 +168,10 @@ SWITCHES = frozenset(
 
 LOSSES = frozenset(
     (
-        "loss losses gain gains efficiency yield multiplier factor shrinkage "
-        "verlust verluste wirkungsgrad faktor ausbeute "
-        "perte pertes rendement facteur "
-        "perdida perdidas rendimiento eficiencia "
+        "loss losses gain gains efficiency yield multiplier factor shrinkage leakage spoilage evaporation "
+        "verlust verluste wirkungsgrad faktor ausbeute schwund effizienz "
+        "perte pertes rendement facteur efficacite "
+        "perdida perdidas rendimiento eficiencia merma mermas "
     ).split()
 )
 """Columns that speak of what becomes less, or more, on the way."""
@@ -207,6 +209,24 @@ EARNINGS = frozenset(
 )
 """Columns that speak of what a unit earns."""
 
+BESIDES = frozenset(
+    (
+        "used reserved booked occupied allocated committed backlog incoming inbound receipts "
+        "belegt reserviert gebucht vergeben verplant ruckstand zugang zugange abgang abgange wareneingang "
+        "reserve occupe engage reservado ocupado comprometido entradas "
+    ).split()
+)
+"""Columns that speak of amounts that are there, or are taken, beside those of the other columns."""
+
+TIERS = frozenset(
+    "tier tiers bracket brackets break breaks threshold staffel staffelmenge tranche tranches tramo".split()
+)
+RANGING = frozenset("from to over above below up until von bis ab uber unter de a desde hasta min max".split())
+"""Columns that speak of costs that change with the amount: by themselves, or beside a word of amounts."""
+
+SCALES = frozenset("per;je;pe;preiseinheit;price unit;par;por;bezugsmenge;basis".split(";"))
+"""Columns that say for how many units a cost is."""
+
 LIMITING = frozenset(("load bound ").split())
 """Words that are no name of a column, and speak of a capacity."""
 
@@ -231,7 +251,9 @@ unit costs, and the columns that tell of the flow. Where all of one are there, t
 OWN_OF_NODES = ("kept", "not met", "price")
 """What `Plan.nodes_to_frame` tells of the nodes of a plan, beside their supplies."""
 
-FIXED = frozenset("fixed fix setup fixkosten fixe fixes fixo fijo fija fijos".split())
+FIXED = frozenset(
+    "fixed fix setup fixkosten fixe fixes fixo fijo fija fijos pauschale grundpreis grundgebuhr forfait".split()
+)
 """Columns that speak of what is paid once, however much flows."""
 
 DITTO = frozenset(('"', "''", "\u2033", "\u3003", "\u201c", "\u201d", "dito", "ditto", "idem"))
