@@ -143,6 +143,9 @@ def _fitted(sheet: Sheet, rows: Sequence[Sequence[Any]]) -> List[Sequence[Any]]:
 
 _LINE = re.compile(r"[^\r\n]*(?:\r\n?|\n)|[^\r\n]+")
 
+_RULE = re.compile(r"\A(\s*[^\r\n]*(?:\r\n?|\n))[ \t]*[|:+-][ \t|:+-]*--[ \t|:+-]*(?=[\r\n])")
+"""The line below the names of the columns that tables of Markdown have, and those that data bases print."""
+
 ROWS_AT_ONCE = 500
 FIELD_MARK = "\x1f"
 """Parts the fields of a line whose quotes were taken off; this is what it was made for, and no table has it."""
@@ -218,7 +221,10 @@ class TextColumn(Sequence[str]):
 
 def read_text(path: Path, encoding: Optional[str] = None) -> Sheet:
     """The sheet of a text whose fields are parted by commas, semicolons, tabs or upright strokes."""
-    text = _decoded(path.read_bytes(), path.name, encoding)
+    raw = path.read_bytes()
+    is_otherwise = encoding is not None and _is_utf8(raw)
+    text = _decoded(raw, path.name, None if is_otherwise else encoding)
+    del raw
     found = re.search(r"[^\r\n]*[^\s][^\r\n]*", text)
     first = found[0] if found else ""
     told = re.fullmatch(r"sep=(.)\s*", first, re.IGNORECASE)
@@ -227,6 +233,8 @@ def read_text(path: Path, encoding: Optional[str] = None) -> Sheet:
         text = re.sub(r"sep=.", "", text, count=1, flags=re.IGNORECASE)
     else:
         delimiter = _delimiter(first, path.name)
+    if delimiter == "|":
+        text = _RULE.sub(r"\1", text, count=1)
     sheet = _sheet_of_lines(path.name, text, delimiter)
     if sheet is None:
         rows, starts = _rows(text, path.name, delimiter)
@@ -236,7 +244,20 @@ def read_text(path: Path, encoding: Optional[str] = None) -> Sheet:
             f"{path.name}: one column alone is there, {sheet.header[0]!r}; columns are parted by commas, semicolons, "
             "tabs or upright strokes"
         )
+    if is_otherwise and encoding is not None and encoding.lower().replace("-", "").replace("_", "") != "utf8":
+        sheet.notes.append(f"{path.name}: it is UTF-8, and is not read as {encoding}")
     return sheet
+
+
+def _is_utf8(raw: bytes) -> bool:
+    """Whether a text is UTF-8 beyond doubt: it has letters of several bytes, which no other encoding has by chance."""
+    if raw.isascii():
+        return False
+    try:
+        raw.decode()
+    except UnicodeDecodeError:
+        return False
+    return True
 
 
 def _sheet_of_lines(name: str, text: str, delimiter: str) -> Optional[Sheet]:
