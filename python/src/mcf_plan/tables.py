@@ -34,12 +34,13 @@ if TYPE_CHECKING:
 __all__ = ["COLUMNS", "PLAN_COLUMNS", "Source", "TableFault", "plan_rows", "read_tables", "write_plan"]
 
 TIME = re.compile(
-    r"(\d{4}-\d\d-\d\d|\d{1,2}[./]\d{1,2}[./]\d{2,4})?[ T]?(\d{1,2}:\d\d(:\d\d)?( ?[ap]m)?)?", re.ASCII | re.IGNORECASE
+    r"(?=\d)(\d{4}-\d\d-\d\d|\d{1,2}[./]\d{1,2}[./]\d{2,4})?[ T]?(\d{1,2}:\d\d(:\d\d)?( ?[ap]m)?)?",
+    re.ASCII | re.IGNORECASE,
 )
 """A date, a time of the day, or both."""
 
-PERIOD = re.compile(r"\s*[+-]?\d|\s*[A-Za-z]{1,2}\d+\s*$", re.ASCII)
-"""A number, a date, a time, or a short name with a number, as Q1."""
+PERIOD = re.compile(r"\s*[A-Za-z]{0,2}(\d{1,9})\s*", re.ASCII)
+"""The number of a period, as 3, 2026 or Q1."""
 
 AMOUNTS_AND_COSTS = ("supply", "demand", "low", "capacity", "cost")
 
@@ -176,9 +177,22 @@ def _check_times(problem: Problem, table: Table, tails: Sequence[str], heads: Se
         )
 
 
+def _are_periods(values: Collection[str]) -> bool:
+    """Whether cells are dates or times, or count from one number on.
+
+    >>> _are_periods(["Q2", "Q1"]), _are_periods(["7.5", "40"]), _are_periods(["2026", "2024"]), _are_periods(["06:00"])
+    (True, False, False, True)
+    """
+    if all(TIME.fullmatch(value.strip()) for value in values):
+        return True
+    found = [PERIOD.fullmatch(value) for value in values]
+    numbers = sorted(int(each[1]) for each in found if each)
+    return len(numbers) == len(values) and numbers == list(range(numbers[0], numbers[0] + len(numbers)))
+
+
 def _check_periods(table: Table, tails: Sequence[str], heads: Sequence[str]) -> None:
-    """Raises TableFault where each value of a column of numbers, dates or times that is left aside stands beside the same
-    arcs, two or more, as in a table of several periods."""
+    """Raises TableFault where each value of a column that is left aside, and may count periods, stands beside the same
+    arcs, two or more."""
     pairs = list(zip(tails, heads))
     times = Counter(pairs)
     each = len(pairs) // len(times)
@@ -191,7 +205,7 @@ def _check_periods(table: Table, tails: Sequence[str], heads: Sequence[str]) -> 
             continue
         cells = list(map(str, sheet.columns[place]))
         values = set(cells)
-        if len(values) == each and all(map(PERIOD.match, values)) and len(set(zip(pairs, cells))) == len(pairs):
+        if len(values) == each and _are_periods(values) and len(set(zip(pairs, cells))) == len(pairs):
             raise TableFault(
                 f"{sheet.name}: the same {counted(len(times), 'arc')} stand beside each value of the column {header!r}, as in "
                 "a table of several periods: all rows are one problem; give those of one plan alone; "
