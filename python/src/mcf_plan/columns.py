@@ -430,8 +430,9 @@ def _why_it_matters(sheet: Sheet, place: int, kinds: Tuple[Sequence[str], Sequen
         )
     if tokens & SWITCHES and not _telling(name, open_kinds):
         return "each row counts; give the table without those that do not"
-    # Where no ends of arcs are found, that is the first thing to be told.
-    if tokens & PARTS and not {"from", "to"} & set(open_kinds) and len(_cells_of(sheet, place)) > 1:
+    # Where no column has the names of nodes, that is the first thing to be told.
+    is_named = not (set(ENDS) & set(open_kinds)) or not sheet.header[0]
+    if tokens & PARTS and is_named and len(_cells_of(sheet, place)) > 1:
         return "all rows are one problem; give those of one plan alone"
     if tokens & BESIDES and _may_count(_cells_of(sheet, place) - {"0"}):
         amount = "a capacity" if "capacity" in of_table else "a supply"
