@@ -43,6 +43,14 @@ class Frames(unittest.TestCase):
         ):
             Problem.from_frames(nodes, arcs.assign(cost=[1]))
 
+    def test_remarks_that_are_missing(self) -> None:
+        nodes = pandas.DataFrame({"name": ["a", "b"], "supply": [2, -2]})
+        arcs = pandas.DataFrame({"from": ["a"] * 3, "to": ["b"] * 3, "cost": [1, 2, 3]})
+        remarks = pandas.array([pandas.NA, "steep", "closed"], dtype="string")
+        with self.assertRaisesRegex(TableFault, "row 2, column 'remark': 'closed' stands there; each row counts"):
+            Problem.from_frames(nodes, arcs.assign(remark=remarks))
+        self.assertEqual(Problem.from_frames(nodes, arcs.assign(remark=remarks)[:2]).solve().cost, 2)
+
     def test_arcs(self) -> None:
         plan = shipped().solve(surplus="keep")
         frame = plan.to_frame()

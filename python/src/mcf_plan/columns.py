@@ -47,6 +47,10 @@ MOST_TOLD = 12
 """So many columns that are left aside are named at most."""
 
 
+MOST_LETTERS = 30
+"""A cell of more letters is a sentence, and not one word of a list."""
+
+
 class Match(NamedTuple):
     """What the name of a column says: the thing that the column holds, and in which unit."""
 
@@ -371,11 +375,13 @@ def _check_unknown(sheet: Sheet, place: int, kinds: Sequence[str], taken: Collec
 
 def _check_words(sheet: Sheet, place: int, kinds: Sequence[str]) -> None:
     """Raises TableFault where a cell of a column of remarks says that its row does not count, or counts both ways."""
-    column = sheet.columns[place]
-    words = {cell: folded(cell) for cell in dict.fromkeys(filter(_is_word, column))}
-    for cell, word in words.items():
+    rows: Dict[str, int] = {}
+    for row, cell in enumerate(sheet.columns[place]):
+        if isinstance(cell, str) and len(cell) <= MOST_LETTERS:
+            rows.setdefault(cell, row)
+    for cell, row in rows.items():
+        word = folded(cell)
         if word in CLOSED or word in BOTH_WAYS and "from" in kinds:
-            row = list(column).index(cell)
             why = (
                 "each row counts: give the table without those that do not"
                 if word in CLOSED
@@ -383,11 +389,6 @@ def _check_words(sheet: Sheet, place: int, kinds: Sequence[str]) -> None:
             )
             aside = f"`--columns aside={quoted(sheet.header[place])}` leaves the column aside"
             raise sheet.fault(row, place, f"{why}; {aside}")
-
-
-def _is_word(cell: Any) -> bool:
-    """Whether a cell is a text of a few words at most."""
-    return isinstance(cell, str) and len(cell) <= 30
 
 
 def _is_money(header: str) -> bool:

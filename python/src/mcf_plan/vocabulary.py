@@ -221,7 +221,7 @@ BESIDES = frozenset(
 TIERS = frozenset(
     "tier tiers bracket brackets break breaks threshold staffel staffelmenge tranche tranches tramo".split()
 )
-RANGING = frozenset("from to over above below up until von bis ab uber unter de a desde hasta min max".split())
+RANGING = frozenset("from to over above below up until von bis ab uber unter de a desde hasta".split())
 """Columns that speak of costs that change with the amount: by themselves, or beside a word of amounts."""
 
 SCALES = frozenset("per;je;pe;preiseinheit;price unit;par;por;bezugsmenge;basis".split(";"))
