@@ -214,6 +214,21 @@ class Workbooks(InFolder):
                 "cost 12.5",
             ),
             (
+                "one currency in two ways, and thousands",
+                lambda sheet: sheet.append(["Kiel", "Berlin", 9000, 3])
+                or setattr(sheet["C2"], "number_format", '0 "t"')
+                or setattr(sheet["C3"], "number_format", '0.0,"k"')
+                or setattr(sheet["D2"], "number_format", '#,##0.00 "EUR"')
+                or setattr(sheet["D3"], "number_format", "#,##0.00\\ [$€-407]"),
+                "cost 12.5",
+            ),
+            (
+                "another unit than that of the column",
+                lambda sheet: setattr(sheet["C1"], "value", "capacity (t)")
+                or setattr(sheet["C2"], "number_format", '0 "kg"'),
+                r"row 2, column 'capacity \(t\)': 9 stands there; it is shown in kg, and the name of the column says t",
+            ),
+            (
                 "a unit in some cells",
                 lambda sheet: sheet.append(["Kiel", "Berlin", 9, 3])
                 or setattr(sheet["D3"], "number_format", '#,##0.00 "€"'),

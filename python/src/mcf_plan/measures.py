@@ -51,6 +51,12 @@ _AMOUNTS, _TIMES = _table(_SAME), _table(_SPANS)
 _COINS = frozenset((*_MONEY.split(), *_CENTS.split()))
 
 
+_SPELLED = {"€": "eur", "euro": "eur", "euros": "eur", "$": "usd", "us$": "usd", "dollar": "usd", "dollars": "usd"}
+_SPELLED.update(
+    {"£": "gbp", "pound": "gbp", "pounds": "gbp", "¥": "jpy", "yen": "jpy", "franken": "chf", "francs": "chf"}
+)
+
+
 class Unit(NamedTuple):
     """A unit as it stands, and what it is made of: what is counted or paid, for how much of what, and for what time."""
 
@@ -80,6 +86,19 @@ class Unit(NamedTuple):
         if self.per or self.time or not is_named:
             return None
         return Unit(f"per {self.text}", "", frozenset((self.base,)), "")
+
+    @property
+    def coin(self) -> str:
+        """What is counted or paid, by one word for each currency."""
+        return _SPELLED.get(self.base, self.base)
+
+    def may_be(self, other: Unit) -> bool:
+        """Whether numbers may be in both units: one of them may say less than the other."""
+        return (
+            (not self.base or not other.base or self.coin == other.coin)
+            and (not self.per or not other.per or self.per == other.per)
+            and (not self.time or not other.time or self.time == other.time)
+        )
 
     @property
     def is_money(self) -> bool:

@@ -24,6 +24,7 @@ from .cells import (
     shown,
 )
 from .columns import Found, called, match_of
+from .measures import unit_of
 from .problem import ZERO, Number, exact, plain
 from .sheets import Sheet
 from .vocabulary import COLUMNS, DITTO
@@ -230,15 +231,21 @@ class Table:
         raise AssertionError("a cell was refused, and now none is")
 
     def _check_shown_units(self, what: str) -> None:
-        """Raises TableFault where a workbook shows the numbers of a column in several units."""
-        units = list(self.sheet.units.get(self.found.places[what], {}).items())
-        if len(units) > 1:
-            (unit, first), (other, row) = units[:2]
-            raise self.fault(
-                row,
-                what,
-                f"it is shown in {other}, and that on {self.sheet.place(first)} in {unit}: bring all to one unit",
-            )
+        """Raises TableFault where a workbook shows the numbers of a column in several units, or in another one than the
+        name of the column says."""
+        shown_units = list(self.sheet.units.get(self.found.places[what], {}).items())
+        said = self.found.units.get(what)
+        for text, row in shown_units:
+            unit = unit_of(text)
+            if said is not None and unit is not None and not unit.may_be(said):
+                raise self.fault(row, what, f"it is shown in {text}, and the name of the column says {said.text}")
+            first, at = shown_units[0]
+            other = unit_of(first)
+            if text != first and (unit is None or other is None or not unit.may_be(other)):
+                place = self.sheet.place(at)
+                raise self.fault(
+                    row, what, f"it is shown in {text}, and that on {place} in {first}: bring all to one unit"
+                )
 
     def _reader(self) -> Numbers:
         """What reads the numbers of the table, by its decimal sign."""

@@ -247,7 +247,7 @@ class _Reader:
                     raise ValueError(f"there is no cell {name}")
                 value = self._value(cell)
                 style = int(cell.get("s", "0"))
-                if type(value) in (int, float) and style < len(units) and units[style]:
+                if number and type(value) in (int, float) and style < len(units) and units[style]:
                     self.units.setdefault(place, {}).setdefault(units[style], number - 1)
                 yield place, value
 
@@ -332,13 +332,15 @@ def _look_of(code: str) -> str:
 
 
 def _unit_in(code: str) -> str:
-    """The unit that a format of numbers shows with them, '' where there is none.
+    """The unit that a format of numbers shows with them, '' where there is none, or where it says thousands or millions.
 
     >>> _unit_in('#,##0.00 "t"'), _unit_in("#,##0.00\\\\ [$€-407]"), _unit_in('_-* #,##0\\\\ "€/t"_-'), _unit_in("0.00;[Red]-0.00")
     ('t', '€', '€/t', '')
     """
     texts = re.findall(r'"([^"]*)"|\[\$([^\]-]*)[^\]]*\]|\\(.)|([€$£¥])', re.sub(r"_.|\*.", "", code).split(";")[0])
     unit = "".join(part for parts in texts for part in parts).strip()
+    if re.search(r"[0#?],+(?![0#?,])", re.sub(r'"[^"]*"', "", code.split(";")[0])):
+        return ""
     return unit if re.search(r"[^\W\d_]|[€$£¥]", unit) else ""
 
 
