@@ -10,6 +10,7 @@ import re
 import unicodedata
 from contextlib import suppress
 from dataclasses import dataclass, field
+from itertools import permutations
 from typing import Any, Collection, Dict, Iterable, List, Mapping, NamedTuple, Optional, Sequence, Set, Tuple
 
 from .cells import NO_LIMIT, YES_OR_NO, TableFault, is_blank, is_empty
@@ -19,6 +20,7 @@ from .vocabulary import (
     AMOUNTS,
     BESIDES,
     BOTH_WAYS,
+    BY_TRADE,
     CLOSED,
     COLUMNS,
     COSTLY,
@@ -100,6 +102,7 @@ def _words_of(table: Mapping[str, Sequence[str]]) -> Dict[str, List[str]]:
 
 
 _WORDS, _STAND_INS, _OF_ASSIGNMENTS = _words_of(COLUMNS), _words_of(STAND_INS), _words_of(OF_ASSIGNMENTS)
+_BY_TRADE = _words_of(BY_TRADE)
 _SPELLED = {folded(name): name for names in COLUMNS.values() for name in names}
 # Single words that a longer name may not have without being looked at; short ones, such as `de` or `a`, are in many.
 _TELLING = {word: things for word, things in _WORDS.items() if " " not in word and len(word) >= 3}
@@ -132,7 +135,9 @@ def find_columns(
         own = _own_columns_of_nodes(sheet) if beside_plan else set()
     found.is_plan = bool(own)
     told.update(dict.fromkeys(own - told.keys(), "aside"))
-    matches, unknown, aside = _matched(sheet, kinds, told, unused, is_assignment)
+    matches, unknown, aside = _matched(sheet, kinds, told, unused)
+    if "from" in kinds:
+        _match_ends(sheet, matches, unknown, is_assignment)
     found.unknown = unknown
     if not matches and not (sheet.index and "node" in kinds):
         raise TableFault(
@@ -156,7 +161,7 @@ def find_columns(
 
 
 def _matched(
-    sheet: Sheet, kinds: Sequence[str], told: Mapping[int, str], unused: Collection[str], is_assignment: bool
+    sheet: Sheet, kinds: Sequence[str], told: Mapping[int, str], unused: Collection[str]
 ) -> Tuple[Dict[str, List[Tuple[int, Match]]], List[int], List[int]]:
     """The columns that match each thing, those that match nothing, and those that are left aside, by their places."""
     matches: Dict[str, List[Tuple[int, Match]]] = {}
@@ -168,10 +173,6 @@ def _matched(
             aside.append(place)
             continue
         match = match_of(header, kinds if said is None else [said])
-        if match is None and is_assignment:
-            match = next(
-                (Match(what, None, True) for what in _OF_ASSIGNMENTS.get(folded(header), ()) if what in kinds), None
-            )
         if said is not None:
             matches.setdefault(said, []).append((place, match or Match(said, None)))
         elif match is None:
@@ -181,6 +182,32 @@ def _matched(
         else:
             matches.setdefault(match.what, []).append((place, match))
     return matches, unknown, aside
+
+
+def _match_ends(
+    sheet: Sheet, matches: Dict[str, List[Tuple[int, Match]]], unknown: List[int], is_assignment: bool
+) -> None:
+    """Takes columns such as `plant` and `customer` for ends of arcs that no column names, where there is one way alone.
+    Where both ends of an assignment stand there twice, as `person` beside `from`, all of them match."""
+    missing = [what for what in ("from", "to") if what not in matches]
+    if is_assignment and not missing:
+        people = {what: place for place in unknown for what in _OF_ASSIGNMENTS.get(folded(sheet.header[place]), ())}
+        for what, place in people.items() if len(people) == 2 else ():
+            matches[what].append((place, Match(what, None)))
+            unknown.remove(place)
+        return
+    ends: Dict[int, Set[str]] = {}
+    for place in unknown:
+        name = folded(sheet.header[place])
+        words = [*_BY_TRADE.get(name, ()), *(_OF_ASSIGNMENTS.get(name, ()) if is_assignment else ())]
+        if words:
+            ends[place] = {"from", "to"} if "" in words else set(words)
+    if len(ends) != len(missing):
+        return
+    ways = [way for way in permutations(missing) if all(what in ends[place] for what, place in zip(way, ends))]
+    for what, place in zip(ways[0], ends) if len(ways) == 1 else ():
+        matches[what] = [(place, Match(what, None, True))]
+        unknown.remove(place)
 
 
 def _tell_aside(sheet: Sheet, aside: Sequence[int]) -> None:

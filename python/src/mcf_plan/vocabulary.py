@@ -90,7 +90,20 @@ OF_ASSIGNMENTS: Dict[str, Tuple[str, ...]] = {
     + ("poste", "tâche", "projet")
     + ("turno", "tarea", "puesto", "proyecto"),
 }
-"""The same for the ends of the arcs of an assignment, whose two sides may change places."""
+"""Names of the columns of the ends of an assignment, whose two sides may change places, where no others are there."""
+
+BY_TRADE: Dict[str, Tuple[str, ...]] = {
+    "from": ("plant", "factory", "mill", "mine", "refinery", "farm", "vendor", "producer")
+    + ("Werk", "Fabrik", "Hersteller", "Erzeuger")
+    + ("usine", "fabrique", "producteur", "fournisseur")
+    + ("fábrica", "planta", "productor", "proveedor"),
+    "to": ("customer", "store", "shop", "market", "consumer", "retailer", "outlet")
+    + ("Kunde", "Markt", "Filiale", "Laden", "Abnehmer")
+    + ("client", "magasin", "marché", "consommateur")
+    + ("cliente", "tienda", "mercado", "consumidor"),
+    "": ("warehouse", "depot", "dc", "hub", "Lager", "Zentrallager", "entrepôt", "dépôt", "almacén", "depósito"),
+}
+"""Names of the columns of the ends of arcs by what stands there, where no others are there; '' may be either end."""
 
 NODE_COLUMNS = ("node", "supply", "demand", "x", "y")
 ARC_COLUMNS = ("from", "to", "low", "capacity", "cost", "name")
