@@ -6,6 +6,7 @@ import math
 import os
 import random
 import sys
+from typing import Callable, Dict, Iterable, Iterator, Tuple
 
 # Name of a size: nodes, arcs.
 SIZES = {
@@ -187,15 +188,21 @@ def stairs(_, nodes, _arcs):
     return problem.lines()
 
 
+def beside(width: int) -> Iterator[Tuple[int, int]]:
+    """The pairs of nodes beside each other in a square that is so wide, the left or the upper one first."""
+    for node in range(1, width * width + 1):
+        if node % width:
+            yield node, node + 1
+        if node + width <= width * width:
+            yield node, node + width
+
+
 def slope(draw, nodes, _arcs):
     """A grid whose arcs cost less than nothing and lead right or down, so that there are no circles; little is shipped."""
     width = math.isqrt(nodes)
     problem = MinProblem(width * width)
-    for node in range(1, width * width + 1):
-        if node % width:
-            problem.add(node, node + 1, 0, draw.randint(3, 1_000_000), -draw.randint(0, 1))
-        if node + width <= width * width:
-            problem.add(node, node + width, 0, draw.randint(3, 1_000_000), -draw.randint(0, 1))
+    for tail, head in beside(width):
+        problem.add(tail, head, 0, draw.randint(3, 1_000_000), -draw.randint(0, 1))
     problem.ship(1, width * width, 3)
     return problem.lines()
 
@@ -391,9 +398,133 @@ def pipelines(draw, nodes, _arcs):
     return problem.lines()
 
 
-# What users have, what planners have over long times and lines, and what hurts: many searches that each push little,
-# long walks, dead ends.
-SETS = {
+def daily(period: int) -> int:
+    """From 0 to 12, down and up again in each day of 24 periods."""
+    return abs(period % 24 - 12)
+
+
+def price_at(draw: random.Random, period: int) -> int:
+    """What a unit costs on the market in a period."""
+    return 30 + 5 * daily(period) + draw.randint(-8, 8)
+
+
+def in_steps(draw: random.Random, problem: MinProblem, tail: int, head: int, room: int, costs: Iterable[int]) -> None:
+    """Arcs from the one node to the other, one for each cost, with a capacity of at most `room` each."""
+    for cost in costs:
+        problem.add(tail, head, 0, draw.randint(1, room), cost)
+
+
+def both_ways(draw: random.Random, problem: MinProblem, one: int, other: int, room: int, cost: int) -> None:
+    """An arc each way, with a capacity of at most `room` and a cost of at most `cost`."""
+    in_steps(draw, problem, one, other, room, [draw.randint(1, cost)])
+    in_steps(draw, problem, other, one, room, [draw.randint(1, cost)])
+
+
+def need(problem: MinProblem, hub: int, node: int, amount: int, cost: int) -> None:
+    """Has a node demand an amount, all of which the hub could supply at this cost."""
+    problem.ship(hub, node, amount)
+    problem.add(hub, node, 0, 100_000_000, cost)
+
+
+def hydro(draw: random.Random, nodes: int, arcs: int) -> Iterator[str]:
+    """Five reservoirs down a river over hours: turbines that gain by the hour's price in steps, spilling, and pumps."""
+    periods = periods_of(min(nodes, arcs // 6), 5)
+    sea = 5 * periods + 1
+    problem = MinProblem(sea)
+    over_time(problem, 5, periods, 0, 1_000)
+    for node in range(1, sea):
+        price = price_at(draw, node % periods)
+        # Water reaches the next reservoir an hour later; that of the last one, or of the last hour, the sea.
+        head = node + periods + 1 if node + periods < sea and node % periods else sea
+        problem.ship(node, sea, draw.randint(0, 40))
+        in_steps(draw, problem, node, head, 50, (-price, 10 - price, 20 - price))
+        problem.add(node, head, 0, 100_000_000, 0)
+        if node > periods:
+            problem.add(node, node - periods, 0, draw.randint(1, 20), price * 6 // 5)
+    return problem.lines()
+
+
+def canal(draw: random.Random, nodes: int, arcs: int) -> Iterator[str]:
+    """Forty reaches over days, each with a pond, a field, a dear well, and a gate from another reach a day before."""
+    periods = periods_of(min(nodes, arcs // 4), 40)
+    river = 40 * periods + 1
+    problem = MinProblem(river)
+    over_time(problem, 40, periods, 1, 100)
+    feeders = [draw.randrange(max(0, reach - 6), max(1, reach)) for reach in range(40)]
+    # How many reaches the gate of each one feeds, its own among them.
+    fed = [1] * 40
+    for reach in range(39, 0, -1):
+        fed[feeders[reach]] += fed[reach]
+    for node in range(1, river):
+        reach, period = divmod(node - 1, periods)
+        tail = feeders[reach] * periods + period if reach and period else river
+        problem.add(tail, node, 0, draw.randint(1, 30 * fed[reach]), draw.randint(1, 6))
+        need(problem, river, node, draw.randint(0, 40), draw.randint(2_500, 10_000))
+        problem.add(node, river, 0, 100_000_000, draw.randint(0, 5))
+    return problem.lines()
+
+
+def energy(draw: random.Random, nodes: int, arcs: int) -> Iterator[str]:
+    """Three zones over hours, with four storages each, lines between them, and a market with price steps."""
+    zones, stores = 3, 12
+    periods = periods_of(min(nodes, arcs // 4), zones + stores)
+    market = (zones + stores) * periods + 1
+    problem = MinProblem(market)
+    over_time(problem, stores, periods, 0, 120)
+    for node in range(stores * periods + 1, market):
+        zone, period = divmod(node - stores * periods - 1, periods)
+        price = price_at(draw, period)
+        in_steps(draw, problem, market, node, 45, (10 * price, 15 * price, 20 * price, 25 * price))
+        need(problem, market, node, draw.randint(20, 80) + 6 * daily(period + 6), 9_000)
+        problem.add(node, market, 0, 1_000, 0)
+        both_ways(draw, problem, node, (stores + (zone + 1) % zones) * periods + period + 1, 40, 9)
+        for store in range(zone, stores, zones):
+            both_ways(draw, problem, node, store * periods + period + 1, 20, 15)
+    return problem.lines()
+
+
+def water(draw: random.Random, nodes: int, arcs: int) -> Iterator[str]:
+    """A town's square of pipes over hours, a tank at each third place, and few pumps with price steps."""
+    width = max(3, math.isqrt(nodes) // 10)
+    places = width * width
+    pumps = max(1, places // 50)
+    periods = periods_of(min(nodes, arcs // 6), places)
+    works = places * periods + 1
+    problem = MinProblem(works)
+    # The first places have the tanks and the last ones the pumps, and each lies anywhere in the square.
+    over_time(problem, places // 3, periods, 1, 5)
+    square = draw.sample(range(places), places)
+    for period in range(1, periods + 1):
+        for place in range(places):
+            amount = draw.randint(0, 1 + daily(period))
+            need(problem, works, place * periods + period, amount, draw.randint(30_000, 60_000))
+        for one, other in beside(width):
+            both_ways(draw, problem, square[one - 1] * periods + period, square[other - 1] * periods + period, 9, 8)
+        price = price_at(draw, period + 7)
+        costs = [price * (10 + 3 * step) // 10 for step in range(5)]
+        for pump in range(places - pumps, places):
+            in_steps(draw, problem, works, pump * periods + period, 3 * places // (2 * pumps), costs)
+    return problem.lines()
+
+
+def dispatch(draw: random.Random, nodes: int, arcs: int) -> Iterator[str]:
+    """A square of lines, a load at each node that is shed at a high cost, and generators with price steps; one hour."""
+    width = math.isqrt(min(nodes, arcs // 6))
+    market = width * width + 1
+    problem = MinProblem(market)
+    for one, other in beside(width):
+        both_ways(draw, problem, one, other, 10, 9)
+    for node in range(1, market):
+        need(problem, market, node, draw.randint(0, 6), draw.randint(45_000, 90_000))
+    for node in draw.sample(range(1, market), max(1, market // 15)):
+        price = draw.randint(20, 80)
+        in_steps(draw, problem, market, node, 24, [price * (2 + step) // 2 for step in range(4)])
+    return problem.lines()
+
+
+# What users have, what planners have over long times and lines, what is kept in storages and bought on a market, and
+# what hurts: many searches that each push little, long walks, dead ends.
+SETS: Dict[str, Dict[str, Callable[..., Iterator[str]]]] = {
     "usual": {
         "transport": transport,
         "transshipment": transshipment,
@@ -408,6 +539,13 @@ SETS = {
         "cash": cash,
         "lots": lots,
         "pipelines": pipelines,
+    },
+    "storage": {
+        "hydro": hydro,
+        "canal": canal,
+        "energy": energy,
+        "water": water,
+        "dispatch": dispatch,
     },
     "hostile": {
         "parallel": parallel,
