@@ -10,6 +10,7 @@ use relaxation::{Proposal, REST_LIMIT, seen};
 /// With walks along any tight arcs after each search: by searches alone a group in a dense network took six times as long.
 const HOME: Fuel = Fuel {
     few: usize::MAX,
+    in_turn: false,
     ..Fuel::USUAL
 };
 

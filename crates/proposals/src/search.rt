@@ -4,7 +4,9 @@ ghost use Rattle.std.specs.Prelude.{◌≡◌, ◌<◌, ◌≤◌, ◌^◌, ℕ,
 ghost use Rattle.relaxation.specs.Links.{LeadTo};
 
 use crate::record::NodeRecord;
+use crate::trial::Trial;
 use containers::{FAR, Frontier, NO_PLACE, Nodes, State, Walk, both};
+use pseudoflow::Forest;
 use relaxation::{Proposal, seen};
 use residual_ends::Link;
 use std::alloc::{AllocError, Global};
@@ -34,6 +36,8 @@ pub struct Search {
     /// The order in which potentials are first lowered, each node behind those that lead to it.
     pub(crate) order: Nodes,
     pub(crate) walk: Walk,
+    /// Shortest paths, while pushes go along one after the other: the room is not touched before they do.
+    pub(crate) forest: Forest,
     /// Walks go along any tight arc, and not only along those from the level below.
     pub(crate) free: bool,
     /// What is kept apart at each node while leftovers go home: the room is not touched before there are some.
@@ -52,8 +56,10 @@ pub struct Search {
     /// Whether ascents may join searches, and whether they did.
     pub(crate) may_ascend: bool,
     pub(crate) ascended: bool,
-    /// How many ends of arcs searches looked at.
+    /// How many ends of arcs were looked at since the solve began.
     pub(crate) looks: u64,
+    /// When pushes along one shortest path after the other are tried.
+    pub(crate) trial: Trial,
     /// How many pushes were made after the last search.
     pub(crate) pushes: usize,
     /// Whether sets of nodes are looked for that have more than can leave them, and whether one was found.
@@ -98,12 +104,14 @@ impl Search {
             known,
             both(lists, walks),
         )?;
+        let forest = Forest::new(alloc, entries)?;
         Ok(Search {
             records,
             reaches,
             frontier,
             order,
             walk,
+            forest,
             free: false,
             apart,
             last: 0,
@@ -115,6 +123,7 @@ impl Search {
             may_ascend: true,
             ascended: false,
             looks: 0,
+            trial: Trial::NONE,
             pushes: 0,
             looks_for_surplus: false,
             has_surplus: false,
@@ -184,7 +193,7 @@ impl Search {
     }
 
     /// Begins at all nodes in excess, and looks for so many nodes in deficit, or for all; for none where no node is in excess.
-    fn begin<const AHEAD: bool>(&mut self, proposal: &Proposal, most: usize)
+    pub(crate) fn begin<const AHEAD: bool>(&mut self, proposal: &Proposal, most: usize)
         requires { proposal.now ≡ self.old }
         ensures { self.new ≡ self.old }
     {
@@ -211,7 +220,7 @@ impl Search {
 
     /// Writes down a path to a node that reaches so far.
     #[inline(always)]
-    fn open(&mut self, v: usize, reach: i64, depth: u32, parent: u32)
+    pub(crate) fn open(&mut self, v: usize, reach: i64, depth: u32, parent: u32)
         requires { v < self.old }
         ensures { self.new ≡ self.old }
     {
@@ -341,7 +350,7 @@ impl Search {
 /// The first of these arcs, from one on, over which a path that reaches so far is the best yet to the node beyond. The loop
 /// writes nothing, so that all it needs stays in registers: where it wrote, too, `asn_mw` took an eighth more time.
 #[inline(always)]
-fn nearer_from<const AHEAD: bool>(
+pub(crate) fn nearer_from<const AHEAD: bool>(
     reaches: &[i64],
     proposal: &Proposal,
     links: &[Link],
@@ -365,7 +374,7 @@ fn nearer_from<const AHEAD: bool>(
 /// How far a path reaches that goes on over an arc, where searches use it: over another one further than any. The sum wraps,
 /// as in `note`.
 #[inline(always)]
-fn reach_over<const AHEAD: bool>(reach: i64, link: &Link, is_open: bool) -> i64 {
+pub(crate) fn reach_over<const AHEAD: bool>(reach: i64, link: &Link, is_open: bool) -> i64 {
     let over = if AHEAD {
         reach.wrapping_add(link.cost)
     } else {

@@ -26,7 +26,7 @@ impl Search {
     /// Lowers potentials until no arc has a negative reduced cost, as where no circle of arcs costs less than nothing, or clearly
     /// fewer have, as where few circles do, and begins with these arcs alone full; otherwise with all of negative cost. A grid of
     /// negative costs without circles took a hundred times as long where all those were full, and a project with one return arc
-    /// four hundred times.
+    /// three hundred times or more.
     pub fn start_empty(&mut self, proposal: &mut Proposal)
         requires { proposal.old ≡ self.old }
         ensures kept { self.new ≡ self.old }

@@ -6,6 +6,7 @@ use crate::greatest::{make_greatest, solve_from};
 use crate::parted::{close_cut, least_left, mark_sides};
 use crate::search::Search;
 use crate::solving::solve;
+use crate::trial::Trial;
 use crate::wanted::{FlowChange, Wanted};
 use containers::{Noted, both};
 use dimacs_text::ArcRow;
@@ -194,6 +195,8 @@ impl Proposals {
     {
         let search = &mut self.search;
         search.settled_nodes = 0;
+        search.looks = 0;
+        search.trial = Trial::NONE;
         match aim {
             Aim::LeastCost => solve(
                 &mut self.proposal,

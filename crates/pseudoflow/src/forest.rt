@@ -5,7 +5,7 @@ use std::alloc::{AllocError, Global};
 
 /// How a node stands in its tree. Node 0 stands for none.
 #[derive(Clone, Copy)]
-pub(crate) struct Branch {
+pub struct Branch {
     /// The node above it, and the place, at the node itself, of the arc that leads there.
     pub above: u32,
     pub place: u32,
@@ -38,7 +38,7 @@ impl Branch {
 
 /// The trees of all nodes. Their room is touched only once there is a tree.
 #[derive(Drop)]
-pub(crate) struct Forest {
+pub struct Forest {
     branches: Vec<Branch>,
     /// How far each node is from the deficits at least: a table of its own, since most looks ask for this alone.
     labels: Vec<u32>,
@@ -165,6 +165,14 @@ impl Forest {
             }
         }
         was
+    }
+
+    /// Makes a node a tree by itself, whatever hung on it.
+    #[inline(always)]
+    pub fn free(&mut self, v: u32) {
+        if let Some(own) = self.at_mut(v) {
+            *own = Branch::ALONE;
+        }
     }
 
     /// The next node that hangs on one and has its label, in a visit of these.

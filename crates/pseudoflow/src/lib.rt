@@ -13,4 +13,5 @@ mod forest;
 mod labels;
 mod solving;
 
+pub use forest::{Branch, Forest};
 pub use solving::Pseudoflow;
