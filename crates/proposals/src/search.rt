@@ -33,7 +33,8 @@ pub struct Search {
     /// arc asks for this one number of the node beyond.
     pub(crate) reaches: Vec<i64>,
     pub(crate) frontier: Frontier,
-    /// The order in which potentials are first lowered, each node behind those that lead to it.
+    /// The order in which potentials are first lowered, each node behind those that lead to it; later the nodes that a push
+    /// along one path cut off, which found no other one to hang on.
     pub(crate) order: Nodes,
     pub(crate) walk: Walk,
     /// Shortest paths, while pushes go along one after the other: the room is not touched before they do.
