@@ -14,11 +14,13 @@ Source = Union[str, Path, Any]
 
 NODE_SHEETS = (
     "nodes node places place towns cities sites locations supplies knoten orte ort standorte stadte noeuds lieux "
-    "villes sites sommets nodos lugares ciudades sitios"
+    "villes sites sommets nodos lugares ciudades sitios nodi luoghi citta siti nos locais cidades knooppunten plaatsen "
+    "steden locaties"
 ).split()
 ARC_SHEETS = (
     "arcs arc edges roads links routes lanes connections kanten wege strecken strassen verbindungen arcs liaisons "
-    "aretes routes trajets arcos aristas rutas caminos carreteras enlaces"
+    "aretes routes trajets arcos aristas rutas caminos carreteras enlaces archi strade tratte collegamenti rotte rotas "
+    "estradas caminhos ligacoes wegen verbindingen trajecten"
 ).split()
 """The names that the sheets of a workbook may have, whatever the letters' size and accents."""
 
