@@ -391,6 +391,9 @@ class Workbooks(InFolder):
     def test_sheets_by_name(self):
         arcs = [HEAD, ["Kiel", "Berlin", 9, 2.5]]
         rest = [["what", "sum"], ["all", 3]]
+        depots, shops = [["Depot", "Stock"], ["Kiel", 5]], [["Shop", "Demand"], ["Berlin", 5]]
+        matrix = [[None, "Berlin", "Kiel"], ["Kiel", 2.5, None]]
+        tableau = [["from/to", "Berlin", "Bonn", "Supply"], ["Kiel", 2.5, 4, 5], ["Demand", 5, 0, None]]
         for title, sheets, words, wanted in (
             ("English", {"Nodes": NODES, "Arcs": arcs}, ["b.xlsx"], "cost 12.5"),
             ("German", {"Orte": NODES, "Straßen": arcs}, ["b.xlsx"], "cost 12.5"),
@@ -420,6 +423,34 @@ class Workbooks(InFolder):
             ("empty ones", {"nodes": NODES, "arcs": arcs, "Sheet3": []}, ["b.xlsx"], "cost 12.5"),
             ("two of a name", {"nodes": NODES, "Orte": NODES, "arcs": arcs}, ["b.xlsx"], "which of its sheets"),
             ("arcs alone", {"Sheet1": arcs}, ["b.xlsx"], "a cheapest plan wants supplies"),
+            ("Italian", {"Nodi": NODES, "Archi": arcs}, ["b.xlsx"], "cost 12.5"),
+            (
+                "three",
+                {"Depots": depots, "Shops": shops, "Costs": arcs},
+                ["b.xlsx"],
+                "cost 12.5\n(.*\n)*.*'Shops' have",
+            ),
+            ("three, said", {"A": depots, "B": shops, "C": arcs}, ["b.xlsx:B", "b.xlsx:A", "b.xlsx:C"], "cost 12.5"),
+            (
+                "three, one of them kept",
+                {"A": depots, "B": shops, "C": arcs},
+                ["b.xlsx", "--table", "b.xlsx:b"],
+                "the sheet 'b' is read",
+            ),
+            (
+                "a matrix",
+                {"A": NODES, "Costs": matrix},
+                ["b.xlsx"],
+                "cost 12.5\n(.*\n)*.*sheet 'Costs': this is a matrix",
+            ),
+            (
+                "depots, shops and a matrix",
+                {"A": depots, "B": shops, "C": matrix},
+                ["b.xlsx"],
+                "cost 12.5\n(.*\n)*.* 'C' the arcs",
+            ),
+            ("a matrix with supplies", {"S": tableau}, ["b.xlsx"], "cost 12.5\n(.*\n)*.* and demands on row 3"),
+            ("a sheet without rows", {"A": depots, "B": shops, "C": [["x"]]}, ["b.xlsx"], "which of its sheets"),
         ):
             with self.subTest(title):
                 book("b.xlsx", **sheets)
@@ -812,6 +843,24 @@ class Frames(unittest.TestCase):
                 read_tables(wrong_nodes, wrong_arcs)
         noted = read_tables(nodes, arcs.rename(columns={"cost": "cost_eur"})).notes
         self.assertRegex("\n".join(noted), "^the frame of arcs: the column 'cost_eur' is the cost")
+
+    @needs("pandas")
+    def test_matrices(self):
+        """The index has the names of the rows, or the first column has."""
+        import pandas
+
+        nodes = pandas.DataFrame({"name": ["Kiel", "Ulm", "Bonn"], "supply": [5, -3, -2]})
+        costs = pandas.DataFrame([[2.5, 1], [0, 4]], index=["Kiel", "Ulm"], columns=["Ulm", "Bonn"])
+        for frame in (costs, costs.rename_axis("from"), costs.rename_axis("from").reset_index()):
+            problem = read_tables(nodes, frame)
+            self.assertEqual(problem.solve().cost, Decimal("9.5"))
+            self.assertEqual(len(problem.arcs), 3)
+        with self.assertRaisesRegex(TableFault, "row 'Kiel', column 'Bonn': 'x y' stands there; a number was expected"):
+            read_tables(nodes, costs.astype(object).replace(1, "x y"))
+        people = read_tables(None, pandas.DataFrame([[3, 5], [2, 9]], ["Ann", "Bob"], ["early", "late"]), kind="asn")
+        self.assertEqual(people.solve().cost, 7)
+        depots, shops = nodes[:1], pandas.DataFrame({"shop": ["Ulm", "Bonn"], "demand": [3, 2]})
+        self.assertEqual(read_tables([depots, shops], costs).solve().cost, Decimal("9.5"))
 
     def test_what_is_no_frame(self):
         for nodes, arcs, which in (({"name": ["a"]}, {}, "nodes"), (None, [1], "arcs")):

@@ -18,6 +18,7 @@ from .measures import Unit, is_amount, unit_of
 from .sheets import Sheet
 from .vocabulary import (
     AMOUNTS,
+    ARC_COLUMNS,
     BESIDES,
     BOTH_WAYS,
     BY_TRADE,
@@ -48,6 +49,9 @@ from .vocabulary import (
 MOST_TOLD = 12
 """So many columns that are left aside are named at most."""
 
+
+SHORT = ("a", "de")
+"""Words for the ends of arcs that may as well be the name of a node."""
 
 MOST_LETTERS = 30
 """A cell of more letters is a sentence, and not one word of a list."""
@@ -154,7 +158,7 @@ def find_columns(
         aside.append(place)
     blank = sheet.blank_columns(unknown)
     aside = [place for place in aside if place not in blank]
-    compare_units({what: (unit, sheet, sheet.header[found.places[what]]) for what, unit in found.units.items()})
+    compare_units([(what, unit, sheet, sheet.header[found.places[what]]) for what, unit in found.units.items()])
     if aside:
         _tell_aside(sheet, aside)
     return found
@@ -304,6 +308,23 @@ def match_of(header: str, kinds: Sequence[str]) -> Optional[Match]:
                 if unit is not None:
                     return Match(what, unit, stands_in)
     return None
+
+
+def words_for(*things: str) -> Set[str]:
+    """The words for columns of these things, without those that are short or have another meaning too."""
+    return {folded(word) for what in things for word in COLUMNS[what]} - {"source", "end", *SHORT}
+
+
+def says(sheet: Sheet, what: str) -> bool:
+    """Whether the name of a column says this."""
+    return any(match_of(header, [what]) for header in sheet.header)
+
+
+def is_of_list(header: str) -> bool:
+    """Whether the name of a column is one of those that a list of arcs has; by itself `A` is none."""
+    name = folded(header)
+    is_known = name in _OF_ASSIGNMENTS or name in _BY_TRADE or match_of(header, ARC_COLUMNS) is not None
+    return is_known and name not in SHORT
 
 
 def _parted(header: str) -> List[Tuple[str, str]]:
@@ -456,7 +477,7 @@ def _why_it_matters(sheet: Sheet, place: int, kinds: Tuple[Sequence[str], Sequen
             "what is paid for a time, however much flows, can't be said; if it is what a unit costs, "
             f"`--columns cost={quoted(header)}` says so"
         )
-    if tokens & SWITCHES and not _telling(name, open_kinds):
+    if tokens & SWITCHES and not telling(name, open_kinds):
         return "each row counts; give the table without those that do not"
     # Where no column has the names of nodes, that is the first thing to be told.
     is_named = not (set(ENDS) & set(open_kinds)) or not sheet.header[0]
@@ -475,7 +496,7 @@ def _why_it_matters(sheet: Sheet, place: int, kinds: Tuple[Sequence[str], Sequen
     near = None if tokens & PARTS else _near(name, header, open_kinds)
     if near:
         return f"did you mean {near[0]!r}? `--columns {near[1]}={quoted(header)}` says so"
-    what = _telling(name, open_kinds)
+    what = telling(name, open_kinds)
     return f"it looks like {called(what)}; `--columns {what}={quoted(header)}` says so" if what else ""
 
 
@@ -493,7 +514,7 @@ def _of_other_table(tokens: Collection[str], header: str, kinds: Sequence[str]) 
     return ""
 
 
-def _telling(name: str, kinds: Sequence[str]) -> Optional[str]:
+def telling(name: str, kinds: Sequence[str]) -> Optional[str]:
     """The thing that a name of several words, or a long word, may be, by a known word in it."""
     for word, things in _TELLING.items():
         if _has_word(name, word, 6):
@@ -564,18 +585,18 @@ def distance(one: str, other: str) -> int:
     return row[-1]
 
 
-def compare_units(units: Mapping[str, Tuple[Unit, Sheet, str]], *, are_all: bool = False) -> None:
+def compare_units(units: Sequence[Tuple[str, Unit, Sheet, str]], *, are_all: bool = False) -> None:
     """Raises TableFault where amounts have different units, or costs are for another unit than that of the amounts; where
-    `are_all` the units there are, also where costs are for many units and the amounts have no unit."""
-    amounts = [(what, *units[what]) for what in ("supply", "demand", "low", "capacity") if what in units]
+    `are_all` the units there are, also where costs are for many units and the amounts have no unit. Each unit stands
+    with what has it, and where."""
+    amounts = [each for what in ("supply", "demand", "low", "capacity") for each in units if each[0] == what]
     for (_, unit, sheet, header), (_, other, their_sheet, theirs) in zip(amounts, amounts[1:]):
         if not unit.agrees(other):
             raise TableFault(
                 f"{sheet.name}, column {header!r}, is {unit.told}, and {their_sheet.name}, column {theirs!r}, "
                 f"{other.told}: bring all amounts to one unit"
             )
-    if "cost" in units:
-        unit, sheet, header = units["cost"]
+    for _, unit, sheet, header in (each for each in units if each[0] == "cost"):
         if are_all and not amounts and unit.is_of_many:
             raise TableFault(
                 f"{sheet.name}, column {header!r}, is {unit.told}, and no amount has a unit: bring costs and amounts to "

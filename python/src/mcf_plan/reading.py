@@ -127,15 +127,7 @@ class Table:
         of_use = set(self.found.places.values())
         if self.reading.default_cost is not None:
             of_use.discard(self.found.places.get("cost", -1))
-        for row, places in sheet.missing.items():
-            if of_use.isdisjoint(places):
-                continue
-            width = len(sheet.header)
-            raise TableFault(
-                f"{sheet.name}, {sheet.place(row)}: {width - len(places)} "
-                f"field{' stands' if width - len(places) == 1 else 's stand'} under {width} columns; an empty field "
-                "needs its separator too"
-            )
+        sheet.check_short(of_use)
 
     def _check_properties(self) -> None:
         """Raises TableFault where a feature of a map has not all the properties that count."""

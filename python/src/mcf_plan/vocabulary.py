@@ -10,13 +10,13 @@ from typing import Dict, Tuple
 
 COLUMNS: Dict[str, Tuple[str, ...]] = {
     "node": ("name", "node", "id", "place", "town", "city", "site", "location", "person", "key", "plant", "customer")
-    + ("warehouse", "depot", "node name", "node id")
-    + ("Knoten", "Ort", "Stadt", "Standort", "Lager", "Werk", "Kunde", "Bezeichnung")
-    + ("nom", "nœud", "noeud", "lieu", "ville", "entrepôt", "usine", "client")
-    + ("nombre", "nodo", "lugar", "ciudad", "sitio", "almacén", "planta", "cliente")
-    + ("nome", "luogo", "località", "città", "sede", "sito", "magazzino", "stabilimento", "punto")
-    + ("nó", "local", "cidade", "localidade", "armazém", "fábrica")
-    + ("naam", "knooppunt", "plaats", "stad", "locatie", "magazijn", "fabriek", "klant"),
+    + ("warehouse", "depot", "node name", "node id", "factory", "shop", "store", "market", "retailer", "outlet", "hub")
+    + ("Knoten", "Ort", "Stadt", "Standort", "Lager", "Werk", "Kunde", "Bezeichnung", "Fabrik", "Filiale", "Markt")
+    + ("nom", "nœud", "noeud", "lieu", "ville", "entrepôt", "dépôt", "usine", "client", "magasin", "marché")
+    + ("nombre", "nodo", "lugar", "ciudad", "sitio", "almacén", "planta", "cliente", "tienda", "mercado")
+    + ("nome", "luogo", "località", "città", "sede", "sito", "magazzino", "stabilimento", "negozio", "punto")
+    + ("nó", "local", "cidade", "localidade", "armazém", "fábrica", "loja")
+    + ("naam", "knooppunt", "plaats", "stad", "locatie", "magazijn", "fabriek", "klant", "winkel"),
     "supply": ("supply", "supplies", "stock", "available", "amount", "offer", "production", "inventory")
     + ("net supply",)
     + ("Angebot", "Bestand", "Vorrat", "Lagerbestand", "Produktion", "verfügbar")
@@ -84,7 +84,8 @@ COLUMNS: Dict[str, Tuple[str, ...]] = {
     + ("capacidade", "capacidade máxima", "no máximo", "limite superior")
     + ("capaciteit", "max. capaciteit", "maximale capaciteit", "maximaal", "bovengrens", "ten hoogste"),
     "cost": ("cost", "costs", "unit cost", "unit costs", "cost per unit", "price", "unit price", "freight rate", "rate")
-    + ("transport cost", "transport costs", "shipping cost", "tariff")
+    + ("transport cost", "transport costs", "transportation cost", "transportation costs", "tariff")
+    + ("shipping cost", "shipping costs", "delivery cost", "delivery costs", "freight cost", "freight costs")
     + ("Kosten", "Stückkosten", "Kosten pro Stück", "Kosten pro Einheit", "Transportkosten", "Frachtkosten", "Preis")
     + ("coût", "coûts", "coût unitaire", "coût de transport", "prix", "tarif")
     + ("costo", "coste", "costos", "costes", "costo unitario", "coste unitario", "precio", "tarifa")
