@@ -22,24 +22,31 @@ from .vocabulary import (
     BESIDES,
     BOTH_WAYS,
     BY_TRADE,
+    CHANCES,
     CLOSED,
     COLUMNS,
     COSTLY,
     EARNINGS,
     ENDS,
+    EXTRAS,
     FIXED,
     HARMLESS,
     LABELS,
     LIMITING,
     LOSSES,
+    LOTS,
+    MUSTS,
     OF_ASSIGNMENTS,
     OWN,
     OWN_OF_NODES,
     PARTS,
     RANGING,
+    REPEATS,
     SCALES,
+    SHARES,
     STAND_INS,
     SWITCHES,
+    THROUGHPUT,
     TIERS,
     TWO_WAYS,
     WORDY,
@@ -472,6 +479,11 @@ def _why_it_matters(sheet: Sheet, place: int, kinds: Tuple[Sequence[str], Sequen
         return "what enters an arc leaves it whole, nothing is lost or gained on the way"
     if "cost" in of_table and tokens & FIXED:
         return "what is paid once, however much flows, can't be said: a cost is that of a unit"
+    if "low" in of_table and tokens & MUSTS:
+        return "what has to be used has a lower bound: write it under `low`"
+    of_numbers = _why_numbers_matter(sheet, place, of_table)
+    if of_numbers:
+        return of_numbers
     if "cost" in open_kinds and _is_rent(header):
         return (
             "what is paid for a time, however much flows, can't be said; if it is what a unit costs, "
@@ -500,12 +512,37 @@ def _why_it_matters(sheet: Sheet, place: int, kinds: Tuple[Sequence[str], Sequen
     return f"it looks like {called(what)}; `--columns {what}={quoted(header)}` says so" if what else ""
 
 
+def _why_numbers_matter(sheet: Sheet, place: int, kinds: Sequence[str]) -> str:
+    """Why a column may matter that has numbers other than 1 alone; '' where nothing speaks for it."""
+    header = sheet.header[place]
+    tokens = {*folded(header).split(), folded(header).replace(" ", "")}
+    words = LOTS | REPEATS | CHANCES | SHARES | EXTRAS
+    if not tokens & words and "%" not in header or not _may_count(_cells_of(sheet, place) - {"1"}):
+        return ""
+    if tokens & LOTS:
+        return "amounts go in any steps, and from nothing on: that they go in lots, or not at all, can't be said"
+    if tokens & CHANCES:
+        return "each row counts whole: that it is there with some probability can't be said"
+    if tokens & SHARES or "%" in header:
+        return "a part of something else can't be said: work it into the amounts and costs"
+    if "capacity" in kinds and tokens & REPEATS:
+        return "it may say how many times a capacity is there: work it into the capacity"
+    if "cost" in kinds and tokens & EXTRAS:
+        return (
+            "it may be a part of what a unit costs: add it to the cost; "
+            f"`--columns cost={quoted(header)}` says that it is all of it"
+        )
+    return ""
+
+
 def _of_other_table(tokens: Collection[str], header: str, kinds: Sequence[str]) -> str:
     """Why a column matters that belongs in the other table."""
     things = {what for token in tokens for what in _WORDS.get(token, ())}
     if "from" in kinds and things & {"supply", "demand"}:
         return "supplies and demands stand in the table of nodes, with a row for each node"
     if "node" in kinds:
+        if not THROUGHPUT.isdisjoint(tokens):
+            things.add("capacity")
         if not (COSTLY | EARNINGS).isdisjoint(tokens) or _is_money(header):
             things.add("cost")
         for what in ("low", "capacity", "cost"):

@@ -214,6 +214,7 @@ TWO_WAYS = frozenset(
         "richtung einbahn sens "
         "sentido "
         "direzione senso direcao eenrichting "
+        "return ruckfahrt ruckweg retour regreso ritorno retorno terugweg "
     ).split()
 )
 """Columns that speak of the way back."""
@@ -239,7 +240,7 @@ LOSSES = frozenset(
         "verlust verluste wirkungsgrad faktor ausbeute schwund effizienz "
         "perte pertes rendement facteur efficacite "
         "perdida perdidas rendimiento eficiencia merma mermas "
-        "perdita perdite rendimento efficienza fattore perda perdas eficiencia fator verlies verliezen "
+        "conversion umrechnung perdita perdite rendimento efficienza fattore perda perdas eficiencia fator verlies verliezen "
     ).split()
 )
 """Columns that speak of what becomes less, or more, on the way."""
@@ -288,9 +289,68 @@ BESIDES = frozenset(
         "belegt reserviert gebucht vergeben verplant ruckstand zugang zugange abgang abgange wareneingang "
         "reserve occupe engage reservado ocupado comprometido entradas "
         "usato riservato prenotato occupato usado gebruikt gereserveerd bezet "
+        "shipped delivered returns geliefert retouren livre livres entregado devoluciones consegnato entregue geleverd "
     ).split()
 )
 """Columns that speak of amounts that are there, or are taken, beside those of the other columns."""
+
+LOTS = frozenset(
+    (
+        "lot lots lotsize batch batches batchsize moq multiple multiples pack packs packsize "
+        "los lose losgrosse gebinde gebindegrosse mindestbestellmenge verpackungseinheit "
+        "lote lotes lotto lotti partij partijgrootte "
+    ).split()
+)
+"""Columns that say in which lots amounts go, or from which amount on."""
+
+REPEATS = frozenset(
+    (
+        "trips lanes trucks lorries vehicles vans departures sailings frequency multiplicity copies "
+        "fahrten spuren lkw lkws fahrzeuge abfahrten frequenz haufigkeit touren "
+        "trajets voyages camions vehicules voies frequence viajes camiones vehiculos carriles frecuencia "
+        "viaggi veicoli corsie frequenza viagens veiculos frequencia ritten vrachtwagens voertuigen frequentie "
+    ).split()
+)
+"""Columns that may say how many times a capacity is there."""
+
+CHANCES = frozenset(
+    (
+        "probability probabilities likelihood chance risk reliability "
+        "wahrscheinlichkeit risiko ausfallrisiko zuverlassigkeit "
+        "probabilite risque fiabilite probabilidad riesgo fiabilidad probabilita rischio affidabilita "
+        "probabilidade risco confiabilidade kans risico waarschijnlijkheid betrouwbaarheid "
+    ).split()
+)
+"""Columns that say how likely it is that a row counts."""
+
+SHARES = frozenset(
+    (
+        "percent percentage pct share shares quota utilization utilisation prozent prozentsatz anteil auslastung "
+        "pourcentage pourcent porcentaje cuota percentuale percentagem porcentagem "
+    ).split()
+)
+"""Columns that have parts of amounts; so does one with % in its name."""
+
+MUSTS = frozenset(
+    (
+        "mandatory compulsory obligatory must pflicht verpflichtend zwingend obligatorisch "
+        "obligatoire obligatorio obligatoria obbligatorio obbligatoria obrigatorio obrigatoria verplicht "
+    ).split()
+)
+"""Columns that say which rows have to be used."""
+
+EXTRAS = frozenset(
+    (
+        "fuel freight handling insurance customs vat markup "
+        "kraftstoff diesel fracht versicherung mehrwertsteuer mwst aufschlag "
+        "carburant fret manutention assurance douane tva combustible flete seguro aduana iva "
+        "carburante nolo assicurazione dogana combustivel frete alfandega brandstof vracht verzekering btw "
+    ).split()
+)
+"""Columns that may be a part of what a unit costs, or all of it, where numbers stand there."""
+
+THROUGHPUT = frozenset("throughput durchsatz umschlag debit caudal portata doorvoer".split())
+"""Columns that may be the capacity of a node."""
 
 TIERS = frozenset(
     "tier tiers bracket brackets break breaks threshold staffel staffelmenge tranche tranches tramo "
