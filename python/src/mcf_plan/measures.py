@@ -4,7 +4,7 @@ from __future__ import annotations
 
 import re
 import unicodedata
-from typing import Dict, FrozenSet, NamedTuple, Optional
+from typing import Dict, FrozenSet, NamedTuple, Optional, Tuple
 
 _MONEY = "eur euro euros € usd dollar dollars $ us$ gbp pound pounds £ chf franken francs jpy yen ¥ pln czk sek nok dkk brl r$"
 _CENTS = "ct cent cents c"
@@ -171,6 +171,27 @@ def unit_of(text: str) -> Optional[Unit]:
         return None
     text = re.sub(r"^(in|en)\s+", "", " ".join(text.split()).strip(" _-.:"), flags=re.IGNORECASE)
     return Unit(text, scale + base, frozenset(per), time)
+
+
+_DIGITS = r"[.,]?\d(?:[\d.,'\u2019\s]*\d)?"
+_BEHIND = re.compile(rf"([+\-\u2212]?{_DIGITS})\s*([^\W\d_].*|[€$£¥/].*)")
+_BEFORE = re.compile(rf"([+\-\u2212]?)\s*([^\W\d_]*[€$£¥]|[^\W\d_]+)\s*([+\-\u2212]?{_DIGITS})")
+
+
+def number_and_unit(cell: str) -> Optional[Tuple[str, str]]:
+    """The number in a cell, and the unit that stands behind it, or before it where it is one of money; None where there is
+    no unit that is known.
+
+    >>> number_and_unit("-€ 2.50"), number_and_unit("1 250,5 t"), number_and_unit("5 h"), number_and_unit("t 5")
+    (('-2.50', '€'), ('1 250,5', 't'), None, None)
+    """
+    behind, before = _BEHIND.fullmatch(cell.strip()), _BEFORE.fullmatch(cell.strip())
+    if behind and unit_of(behind[2]) is not None:
+        return behind[1], behind[2]
+    unit = unit_of(before[2]) if before else None
+    if before and unit is not None and unit.is_money and not (before[1] and before[3][0] in "+-\u2212"):
+        return before[1] + before[3], before[2]
+    return None
 
 
 def is_amount(text: str) -> bool:

@@ -10,6 +10,7 @@ from typing import Dict, Iterable, List, Mapping, Optional, Sequence, Tuple, Uni
 from .cells import (
     LACKING,
     MISSING,
+    NO_LIMIT,
     CellFault,
     Coordinates,
     Numbers,
@@ -18,13 +19,14 @@ from .cells import (
     Undecided,
     bare,
     decimal_sign,
+    is_empty,
     is_truth,
     name_of,
     not_plain,
     shown,
 )
 from .columns import Found, called, match_of
-from .measures import unit_of
+from .measures import number_and_unit, unit_of
 from .problem import ZERO, Number, exact, plain
 from .sheets import Sheet
 from .vocabulary import COLUMNS, DITTO
@@ -103,6 +105,8 @@ class Table:
     def __init__(self, sheet: Sheet, found: Found, reading: Reading):
         self.sheet, self.found, self.reading = sheet, found, reading
         self._check_short_rows()
+        for what in self._with_numbers():
+            self._take_units(what)
         self._numbers: Optional[Numbers] = None
         self._names = _Names()
         # Where columns are parted by commas, numbers have a decimal point unless they show something else.
@@ -221,6 +225,33 @@ class Table:
                     )
                 raise self.fault(row, what, expected) from None
         raise AssertionError("a cell was refused, and now none is")
+
+    def _take_units(self, what: str) -> None:
+        """Parts the numbers of a column from their units, where all of them have one of the kind that belongs there."""
+        place = self.found.places[what]
+        parted: Dict[str, Tuple[str, str]] = {}
+        for cell in self.sheet.columns[place]:
+            if is_empty(cell) or isinstance(cell, str) and (cell in parted or cell.strip().lower() in NO_LIMIT):
+                continue
+            found = number_and_unit(cell) if isinstance(cell, str) else None
+            unit = unit_of(found[1]) if found is not None else None
+            if (
+                found is None
+                or unit is None
+                or (unit.of_cost(is_named=False) if what == "cost" else unit.of_amount()) is None
+            ):
+                return
+            parted[cell] = found
+        if not parted:
+            return
+        units = self.sheet.units.setdefault(place, {})
+        for row, cell in enumerate(self.sheet.columns[place]):
+            if cell in parted:
+                units.setdefault(parted[cell][1], row)
+        self.sheet.columns[place] = [parted[cell][0] if cell in parted else cell for cell in self.sheet.columns[place]]
+        self.sheet.notes.append(
+            f"{self.sheet.name}: by its cells the column {self.sheet.header[place]!r} is in {next(iter(units))}"
+        )
 
     def _check_shown_units(self, what: str) -> None:
         """Raises TableFault where a workbook shows the numbers of a column in several units, or in another one than the
