@@ -40,6 +40,7 @@ from .vocabulary import (
     OWN,
     OWN_OF_NODES,
     PARTS,
+    QUANTITIES,
     RANGING,
     REPEATS,
     SCALES,
@@ -56,6 +57,8 @@ from .vocabulary import (
 MOST_TOLD = 12
 """So many columns that are left aside are named at most."""
 
+
+AMOUNT_COLUMNS = ("supply", "demand", "low", "capacity")
 
 SHORT = ("a", "de")
 """Words for the ends of arcs that may as well be the name of a node."""
@@ -303,8 +306,7 @@ def match_of(header: str, kinds: Sequence[str]) -> Optional[Match]:
     ('cost', None)
     """
     for words, stands_in in ((_WORDS, False), (_STAND_INS, True)):
-        name = folded(header)
-        for what in words.get(name, ()):
+        for what in words.get(folded(header), ()):
             if what in kinds:
                 return Match(what, None, stands_in)
         for base, behind in _parted(header):
@@ -314,6 +316,23 @@ def match_of(header: str, kinds: Sequence[str]) -> Optional[Match]:
                     unit = unit.of_cost(is_named=not stands_in) if what == "cost" else unit.of_amount()
                 if unit is not None:
                     return Match(what, unit, stands_in)
+    return _amount_of(header, kinds)
+
+
+def _amount_of(header: str, kinds: Sequence[str]) -> Optional[Match]:
+    """What the name of a column of amounts says that has a word for amounts, or their unit, beside one that is known, as
+    `max. quantity`, `Supply qty (t)` or `units available`."""
+    for base, behind in [(header, ""), *_parted(header)]:
+        tokens = folded(base).split()
+        rest = " ".join(token for token in tokens if token not in QUANTITIES)
+        unit = unit_of(behind)
+        if len(tokens) > 1 and unit_of(tokens[0]) is not None and is_amount(tokens[0]) and not behind:
+            rest, unit = " ".join(tokens[1:]), unit_of(tokens[0])
+        if not rest or rest == folded(header) or behind and unit is None:
+            continue
+        for what in _WORDS.get(rest, ()):
+            if what in kinds and what in AMOUNT_COLUMNS and (unit is None or unit.of_amount() is not None):
+                return Match(what, unit)
     return None
 
 
@@ -626,7 +645,7 @@ def compare_units(units: Sequence[Tuple[str, Unit, Sheet, str]], *, are_all: boo
     """Raises TableFault where amounts have different units, or costs are for another unit than that of the amounts; where
     `are_all` the units there are, also where costs are for many units and the amounts have no unit. Each unit stands
     with what has it, and where."""
-    amounts = [each for what in ("supply", "demand", "low", "capacity") for each in units if each[0] == what]
+    amounts = [each for what in AMOUNT_COLUMNS for each in units if each[0] == what]
     for (_, unit, sheet, header), (_, other, their_sheet, theirs) in zip(amounts, amounts[1:]):
         if not unit.agrees(other):
             raise TableFault(

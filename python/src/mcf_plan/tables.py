@@ -16,7 +16,7 @@ from itertools import chain
 from pathlib import Path
 from typing import TYPE_CHECKING, Any, Collection, Dict, Iterable, List, Mapping, Optional, Sequence, Tuple, Union
 
-from .cells import TableFault, is_empty, limit_fault, name_of
+from .cells import LACKING, TableFault, is_empty, limit_fault, name_of
 from .columns import called, compare_units, find_columns, folded, quoted, words_for
 from .formats import counted, some
 from .matrices import Listed, as_list
@@ -332,7 +332,21 @@ def _read_nodes(problem: Problem, table: Table, ends: Collection[str], others: D
         header = sheet.header[table.found.places[there]]
         sheet.notes.append(f"{sheet.name}: the column {header!r} is left aside, since none says {called(other)}")
     others.update(dict.fromkeys(names, sheet.name))
+    _tell_empty(table, names)
     table.tell_sign()
+
+
+def _tell_empty(table: Table, names: Sequence[str]) -> None:
+    """Notes nodes without a number of supply or demand: it may be missing. On a map places without one are usual."""
+    cells = [table.sheet.columns[table.found.places[what]] for what in ("supply", "demand") if table.has(what)]
+    empty = [
+        name for name, row in zip(names, zip(*cells)) if all(is_empty(cell) and cell is not LACKING for cell in row)
+    ]
+    if empty:
+        counts = "counts" if len(empty) == 1 else "count"
+        table.sheet.notes.append(
+            f"{table.sheet.name}: {counted(len(empty), 'node')} without a number {counts} as 0: {some(empty)}"
+        )
 
 
 def _says_demand(cells: Iterable[Any]) -> bool:

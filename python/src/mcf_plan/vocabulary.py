@@ -25,7 +25,7 @@ COLUMNS: Dict[str, Tuple[str, ...]] = {
     + ("offerta", "disponibilità", "disponibile", "giacenza", "scorta", "scorte", "produzione", "fornitura")
     + ("disponibilidade", "disponível", "estoque", "existências", "produção", "fornecimento")
     + ("aanbod", "voorraad", "beschikbaar", "productie"),
-    "demand": ("demand", "demands", "need", "needs", "wanted", "orders", "order", "required", "consumption")
+    "demand": ("demand", "demands", "need", "needs", "needed", "wanted", "orders", "order", "required", "consumption")
     + ("Bedarf", "Nachfrage", "Bestellung", "Bestellungen", "Verbrauch")
     + ("demande", "besoin", "besoins", "commande", "commandes", "consommation")
     + ("demanda", "necesidad", "pedido", "pedidos", "consumo")
@@ -377,6 +377,12 @@ AMOUNTS = frozenset(
     ).split()
 )
 """Words of a column that may be the capacity where no other column is."""
+
+QUANTITIES = frozenset(
+    "quantity quantities qty volume volumes menge mengen quantite quantites cantidad cantidades quantita quantidade "
+    "quantidades hoeveelheid aantal".split()
+)
+"""Words that say nothing beside one of an amount, as in `max. quantity`."""
 
 OWN = (
     ("cost", ("flow", "total cost", "is full")),
