@@ -2,6 +2,7 @@
 
 import contextlib
 import csv
+import datetime
 import io
 import json
 import os
@@ -142,8 +143,6 @@ class Workbooks(InFolder):
 
     @needs("openpyxl")
     def test_cells(self):
-        import datetime
-
         for title, row, wanted in (
             ("numbers", ["Kiel", "Berlin", 9, 2.5], "cost 12.5"),
             ("an empty capacity", ["Kiel", "Berlin", None, 2.5], "cost 12.5"),
@@ -393,6 +392,9 @@ class Workbooks(InFolder):
         rest = [["what", "sum"], ["all", 3]]
         depots, shops = [["Depot", "Stock"], ["Kiel", 5]], [["Shop", "Demand"], ["Berlin", 5]]
         matrix = [[None, "Berlin", "Kiel"], ["Kiel", 2.5, None]]
+        january, february = datetime.date(2026, 1, 1), datetime.date(2026, 2, 1)
+        days = [["day", "name", "supply"], [None, january, 5], [None, february, -5]]
+        of_days = [[None, january, february], [january, 0, 2.5]]
         tableau = [["from/to", "Berlin", "Bonn", "Supply"], ["Kiel", 2.5, 4, 5], ["Demand", 5, 0, None]]
         for title, sheets, words, wanted in (
             ("English", {"Nodes": NODES, "Arcs": arcs}, ["b.xlsx"], "cost 12.5"),
@@ -449,6 +451,13 @@ class Workbooks(InFolder):
                 ["b.xlsx"],
                 "cost 12.5\n(.*\n)*.* 'C' the arcs",
             ),
+            (
+                "a matrix of days",
+                {"A": days, "B": of_days},
+                ["b.xlsx"],
+                "cost 12.5\n(.*\n)*.*nodes 2026-01-01, 2026-02-01;",
+            ),
+            ("a matrix that begins further in", {"S": [[None, *row] for row in tableau]}, ["b.xlsx"], "cost 12.5"),
             ("a matrix with supplies", {"S": tableau}, ["b.xlsx"], "cost 12.5\n(.*\n)*.* and demands on row 3"),
             ("a sheet without rows", {"A": depots, "B": shops, "C": [["x"]]}, ["b.xlsx"], "which of its sheets"),
         ):

@@ -14,6 +14,7 @@ from itertools import permutations
 from typing import Any, Collection, Dict, Iterable, List, Mapping, NamedTuple, Optional, Sequence, Set, Tuple
 
 from .cells import NO_LIMIT, YES_OR_NO, TableFault, is_blank, is_empty
+from .formats import some
 from .measures import Unit, is_amount, unit_of
 from .sheets import Sheet
 from .vocabulary import (
@@ -40,6 +41,7 @@ from .vocabulary import (
     OWN,
     OWN_OF_NODES,
     PARTS,
+    PERIODS,
     QUANTITIES,
     RANGING,
     REPEATS,
@@ -166,6 +168,7 @@ def find_columns(
             continue  # It may have the names of the nodes.
         _check_unknown(sheet, place, [what for what in kinds if what not in unused], matches)
         aside.append(place)
+    _check_periods(sheet, unknown)
     blank = sheet.blank_columns(unknown)
     aside = [place for place in aside if place not in blank]
     compare_units([(what, unit, sheet, sheet.header[found.places[what]]) for what, unit in found.units.items()])
@@ -445,6 +448,31 @@ def _check_unknown(sheet: Sheet, place: int, kinds: Sequence[str], taken: Collec
             f"{sheet.name}: the column {header!r} is not understood: {why}; `--columns aside={quoted(header)}` leaves "
             "it aside"
         )
+
+
+_PERIOD = re.compile(r"(q|w|kw|t|s|trim|sem|week|woche|day|tag|month|monat|period|periode)?\s*\d{1,4}(\s\d{1,4}){0,2}")
+
+
+def _is_period(header: str) -> bool:
+    """Whether the name of a column is that of a time, as `Jan`, `March 2026`, `Q1`, `KW 12` or `2026-01`."""
+    name = folded(header)
+    rest = [token for token in name.split() if token not in PERIODS]
+    return bool(name) and (
+        all(map(str.isdigit, rest)) if len(rest) < len(name.split()) else bool(_PERIOD.fullmatch(name))
+    )
+
+
+def _check_periods(sheet: Sheet, unknown: Sequence[int]) -> None:
+    """Raises TableFault where numbers stand in two columns or more that are called like times."""
+    places = [place for place in unknown if _is_period(sheet.header[place]) and _may_count(_cells_of(sheet, place))]
+    if len(places) < 2:
+        return
+    names = [sheet.header[place] for place in places]
+    aside = " ".join(f"--columns aside={quoted(name)}" for name in names[:2]) + " .." * (len(names) > 2)
+    raise TableFault(
+        f"{sheet.name}: the columns {some(names)} look like times, with numbers for each: all rows are one problem; give "
+        f"those of one plan alone; `{aside}` leaves them aside"
+    )
 
 
 def _check_words(sheet: Sheet, place: int, kinds: Sequence[str]) -> None:

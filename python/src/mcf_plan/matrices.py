@@ -10,7 +10,7 @@ from .cells import CellFault, TableFault, is_blank, name_of, shown
 from .columns import Match, folded, is_of_list, match_of, quoted, telling, words_for
 from .formats import counted, some
 from .sheets import Sheet
-from .vocabulary import AMOUNTS, CLOSED, EARNINGS, FIXED, HARMLESS, LOSSES, SUMS
+from .vocabulary import AMOUNTS, CLOSED, EARNINGS, FIXED, HARMLESS, LOSSES, SCORES, SUMS
 
 NO_WAY = CLOSED | {"-", "--", "–", "—", "x", "×", "∞", "inf", "n/a"}
 """What a cell says of two nodes between which no arc leads; an empty one says so too."""
@@ -58,7 +58,7 @@ def as_list(
 
     Raises TableFault where it is a matrix that is not understood.
     """
-    sheet = _with_index(arcs)
+    sheet = _with_names_first(arcs)
     headers = set(map(folded, sheet.header))
     has_ends = all(words_for(what) & headers or what in chosen for what in ("from", "to"))
     if len(sheet.header) < 3 or has_ends:
@@ -71,16 +71,16 @@ def as_list(
         is_known = 2 * sum(folded(sheet.header[place]) in known for place in places) > len(places)
         if not is_known and (nodes or not _is_table_of_costs(sheet, places)):
             return list(nodes), arcs
-        if kind == "max" or kind == "min" and not nodes:
-            names = some([sheet.header[place] for place in places])
-            advice = (
-                "give each arc a row of its own, under the columns from, to and capacity"
-                if kind == "max"
-                else "a cheapest plan wants supplies: give the table of nodes before it, or supplies in a last column "
-                "`supply` and demands in a last row `demand` (`--kind asn` wants none)"
-            )
-            raise TableFault(f"{sheet.name} looks like a matrix, with columns for the nodes {names}: {advice}")
-        parts = _Parts(range(len(sheet.lines)), places)
+    if kind == "max" or kind == "min" and not nodes and parts is None:
+        names = some([sheet.header[place] for place in places])
+        advice = (
+            "give each arc a row of its own, under the columns from, to and capacity"
+            if kind == "max"
+            else "a cheapest plan wants supplies: give the table of nodes before it, or supplies in a last column "
+            "`supply` and demands in a last row `demand` (`--kind asn` wants none)"
+        )
+        raise TableFault(f"{sheet.name} looks like a matrix, with columns for the nodes {names}: {advice}")
+    parts = parts or _Parts(range(len(sheet.lines)), places)
     _check_names(sheet, parts)
     if nodes:
         _check_columns(sheet, parts, known)
@@ -89,15 +89,23 @@ def as_list(
 
 def is_matrix_of(sheet: Sheet, nodes: Sequence[Sheet]) -> bool:
     """Whether the names of a sheet's columns are those of nodes."""
-    names = [sheet.header[place] for place in _named(_with_index(sheet))]
+    names = [sheet.header[place] for place in _named(_with_names_first(sheet))]
     return len(names) > 1 and 2 * len(_names_in(nodes) & set(names)) > len(names)
 
 
-def _with_index(sheet: Sheet) -> Sheet:
-    """The sheet of a frame with its index as the first column."""
-    if sheet.index is None or sheet.columns and sheet.columns[0] is sheet.index:
+def _with_names_first(sheet: Sheet) -> Sheet:
+    """The sheet of a frame with its index as the first column, and one that begins with blank columns, as tables of
+    Markdown do, without these."""
+    if sheet.index is not None and not any(column is sheet.index for column in sheet.columns):
+        return replace(sheet, header=["", *sheet.header], columns=[sheet.index, *sheet.columns])
+    first = 0
+    while first < len(sheet.header) and not sheet.header[first] and all(map(is_blank, sheet.columns[first])):
+        first += 1
+    if not first:
         return sheet
-    return replace(sheet, header=["", *sheet.header], columns=[sheet.index, *sheet.columns])
+    missing = {row: frozenset(place - first for place in places) for row, places in sheet.missing.items()}
+    units = {place - first: its for place, its in sheet.units.items()}
+    return replace(sheet, header=sheet.header[first:], columns=sheet.columns[first:], missing=missing, units=units)
 
 
 def _named(sheet: Sheet) -> List[int]:
@@ -187,6 +195,7 @@ def _listed(sheet: Sheet, nodes: List[Sheet], parts: _Parts) -> Tuple[List[Sheet
             f", and the supplies are those of {'rows' if said else 'columns'}"
         )
     cells, none = _cells(sheet, parts)
+    _check_costs(sheet, cells)
     if not cells:
         raise TableFault(f"{sheet.name}: this looks like a matrix, and no cell of it says what a unit costs")
     _check_halves(sheet, parts, cells)
@@ -208,6 +217,17 @@ def _listed(sheet: Sheet, nodes: List[Sheet], parts: _Parts) -> Tuple[List[Sheet
     return ([*nodes, _nodes_of(sheet, parts)] if parts.beside is not None else nodes), arcs
 
 
+def _check_costs(sheet: Sheet, cells: Sequence[Tuple[int, int]]) -> None:
+    """Raises TableFault where 0 and 1 alone stand in a matrix that is not said to be one of costs: they may say who can
+    do what."""
+    held = {str(sheet.columns[place][row]).strip() for row, place in cells}
+    if held == {"0", "1"} and not match_of(sheet.header[0], ("cost",)):
+        raise TableFault(
+            f"{sheet.name}: this looks like a matrix, and 0 and 1 alone stand in it: if they are costs, call its first "
+            "column `cost`; if they say what can be, write what it costs where it can, and nothing elsewhere"
+        )
+
+
 def _corner(sheet: Sheet) -> Tuple[str, Optional[bool]]:
     """What the name of the first column says: the name of the costs, and whether arcs lead from columns to rows, None
     where it says nothing of that. Raises TableFault where it says that the cells are no costs of a unit."""
@@ -222,7 +242,9 @@ def _corner(sheet: Sheet) -> Tuple[str, Optional[bool]]:
         if not found and match_of(first, rows[:1]):
             return "cost", is_turned
     words = set(folded(corner).split())
-    if words & (AMOUNTS | EARNINGS | FIXED | LOSSES) or telling(folded(corner), ("cost", "capacity", "low", *_SIDES)):
+    if words & (AMOUNTS | EARNINGS | FIXED | LOSSES | SCORES) or telling(
+        folded(corner), ("cost", "capacity", "low", *_SIDES)
+    ):
         raise TableFault(
             f"{sheet.name}: this looks like a matrix, and by the name {corner!r} of its first column a cell is not what a "
             "unit costs; call that column `cost` if it is, else give each arc a row of its own, under the columns from, "
@@ -247,6 +269,11 @@ def _check_names(sheet: Sheet, parts: _Parts) -> None:
             raise TableFault(f"{sheet.name}: two columns are called {header!r}: give each node one")
         if folded(header) in SUMS:
             raise TableFault(f"{sheet.name}: the column {header!r} looks like one of sums: give the table without it")
+        if parts.beside is not None and _speaks_of_numbers(header):
+            raise TableFault(
+                f"{sheet.name}: the column {header!r} of the matrix looks like no node; `--columns aside={quoted(header)}` "
+                "leaves it aside"
+            )
     rows: Dict[str, int] = {}
     for row in parts.rows:
         name = _name(sheet.columns[0][row])
@@ -254,6 +281,13 @@ def _check_names(sheet: Sheet, parts: _Parts) -> None:
             raise sheet.fault(row, 0, f"it stands on {sheet.place(rows[name])} already")
         if folded(name) in SUMS:
             raise sheet.fault(row, 0, "this looks like a row of sums: give the table without it")
+        if parts.beside is not None and _speaks_of_numbers(name):
+            raise sheet.fault(row, 0, "this looks like no node: give the table without this row, or call it otherwise")
+
+
+def _speaks_of_numbers(name: str) -> bool:
+    """Whether a name speaks of what stands in a table, and so rather is no name of a node."""
+    return telling(folded(name), ("cost", "capacity", "low", *_SIDES)) is not None
 
 
 def _cells(sheet: Sheet, parts: _Parts) -> Tuple[List[Tuple[int, int]], List[Tuple[int, int]]]:
@@ -336,6 +370,10 @@ def _nodes_of(sheet: Sheet, parts: _Parts) -> Listed:
         rows[_name(sheet.columns[0][row])] = [(row, 0), (row, beside), nothing]
     for place in parts.places:
         rows.setdefault(_name(sheet.header[place]), [(-1, place), nothing, nothing])[2] = (below, place)
+    for name, (_, *amounts_at) in rows.items():
+        for row, place in amounts_at:
+            if (row, place) != nothing and is_blank(sheet.columns[place][row]):
+                raise sheet.fault(row, place, f"a number was expected: write 0 if {name!r} is a node, else take it out")
     origins = list(zip(*rows.values()))
     columns: List[Sequence[Any]] = [list(rows)]
     columns += [["" if at == nothing else sheet.columns[at[1]][at[0]] for at in column] for column in origins[1:]]

@@ -3,6 +3,7 @@
 from __future__ import annotations
 
 import csv
+import datetime
 import re
 from dataclasses import dataclass, field
 from pathlib import Path
@@ -107,12 +108,18 @@ def _sheet_under(name: str, names: Sequence[Any], lines: Sequence[int], *, word:
                 f"{name}, {word} {lines[0]}: {shown(cell)} stands there; the name of a column was expected, and this is "
                 f"{wrong}"
             )
-    header = ["" if is_empty(cell) else str(cell).strip() for cell in names]
+    header = ["" if is_empty(cell) else _title(cell) for cell in names]
     while header and not header[-1]:
         header.pop()
     if len(lines) == 1:
         raise TableFault(f"{name}: the names of the columns stand there, and no row below them")
     return Sheet(name, header, [], lines[1:], word, delimiter)
+
+
+def _title(cell: Any) -> str:
+    """The name of a column in a cell; a day, as workbooks have it, without its time."""
+    is_day = isinstance(cell, datetime.datetime) and cell.time() == datetime.time()
+    return str(cell.date() if is_day else cell).strip()
 
 
 def _take_index(sheet: Sheet) -> None:

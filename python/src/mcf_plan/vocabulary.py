@@ -283,6 +283,15 @@ EARNINGS = frozenset(
 )
 """Columns that speak of what a unit earns."""
 
+SCORES = frozenset(
+    (
+        "score scores rating ratings points utility preference preferences skill skills "
+        "punkte punktzahl bewertung note noten eignung wunsch wunsche "
+        "puntos puntuacion punteggio punti pontos pontuacao voorkeur punten "
+    ).split()
+)
+"""Words over a matrix of which more may be better."""
+
 BESIDES = frozenset(
     (
         "used reserved booked occupied allocated committed backlog incoming inbound receipts "
@@ -400,6 +409,25 @@ FIXED = frozenset(
     "forfait vast vaste".split()
 )
 """Columns that speak of what is paid once, however much flows."""
+
+PERIODS = frozenset(
+    (
+        "jan feb mar apr may jun jul aug sep sept oct nov dec january february march april june july august september "
+        "october november december mon tue tues wed thu thur thurs fri sat sun monday tuesday wednesday thursday friday "
+        "saturday sunday "
+        "januar februar marz mai juni juli oktober dezember okt dez montag dienstag mittwoch donnerstag freitag samstag "
+        "sonntag "
+        "janvier fevrier mars avril juin juillet aout septembre octobre novembre decembre lundi mardi mercredi jeudi "
+        "vendredi samedi dimanche "
+        "enero febrero marzo abril mayo junio julio agosto septiembre octubre noviembre diciembre lunes martes miercoles "
+        "jueves viernes sabado domingo "
+        "gennaio febbraio aprile maggio giugno luglio settembre ottobre dicembre lunedi martedi mercoledi giovedi venerdi "
+        "sabato domenica "
+        "janeiro fevereiro marco maio junho julho setembro outubro novembro dezembro segunda terca quarta quinta sexta "
+        "januari februari maart mei augustus maandag dinsdag woensdag donderdag vrijdag zaterdag zondag "
+    ).split()
+)
+"""Names of months and of days of the week."""
 
 DITTO = frozenset(('"', "''", "\u2033", "\u3003", "\u201c", "\u201d", "dito", "ditto", "idem"))
 """What stands in a cell for the name above it."""
