@@ -346,8 +346,6 @@ class Workbooks(InFolder):
 
     @needs("openpyxl")
     def test_names_that_are_dates_and_times(self):
-        import datetime
-
         import openpyxl
         from openpyxl.utils.datetime import CALENDAR_MAC_1904, CALENDAR_WINDOWS_1900
 

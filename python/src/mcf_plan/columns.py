@@ -438,6 +438,8 @@ def _check_unknown(sheet: Sheet, place: int, kinds: Sequence[str], taken: Collec
     # Where the ends of an arc and the name of a node are known, other columns may have words like theirs.
     open_kinds = [what for what in kinds if what not in LABELS and not (what in taken and what in ENDS)]
     why = _why_it_matters(sheet, place, (kinds, open_kinds))
+    if why and "supply" in kinds and {"supply", "demand"}.isdisjoint(taken) and match_of(header, ["capacity"]):
+        why += f"; `--columns supply={quoted(header)}` says that it is the supply"
     if not why and "cost" in kinds and _is_money(header):
         none = "" if "cost" in taken else ", which no other column is"
         why = f"it may be the cost of a unit{none}; `--columns cost={quoted(header)}` says so"

@@ -7,7 +7,7 @@ from dataclasses import dataclass, field, replace
 from typing import Any, Collection, Dict, Iterable, List, Mapping, NamedTuple, Optional, Sequence, Set, Tuple
 
 from .cells import CellFault, TableFault, is_blank, name_of, shown
-from .columns import Match, folded, is_of_list, match_of, quoted, telling, words_for
+from .columns import SHORT, Match, folded, is_of_list, match_of, quoted, telling, words_for
 from .formats import counted, some
 from .sheets import Sheet
 from .vocabulary import AMOUNTS, CLOSED, EARNINGS, FIXED, HARMLESS, LOSSES, SCORES, SUMS
@@ -61,7 +61,7 @@ def as_list(
     sheet = _with_names_first(arcs)
     headers = set(map(folded, sheet.header))
     has_ends = all(words_for(what) & headers or what in chosen for what in ("from", "to"))
-    if len(sheet.header) < 3 or has_ends:
+    if len(sheet.header) < (2 if nodes else 3) or has_ends:
         return list(nodes), arcs
     aside = set(map(folded, chosen.get("aside", ())))
     places = [place for place in _named(sheet) if folded(sheet.header[place]) not in aside]
@@ -81,7 +81,7 @@ def as_list(
         )
         raise TableFault(f"{sheet.name} looks like a matrix, with columns for the nodes {names}: {advice}")
     parts = parts or _Parts(range(len(sheet.lines)), places)
-    _check_names(sheet, parts)
+    _check_names(sheet, parts, has_nodes=bool(nodes))
     if nodes:
         _check_columns(sheet, parts, known)
     return _listed(sheet, list(nodes), parts)
@@ -257,8 +257,9 @@ _SIDES = ("supply", "demand")
 _TAILS, _HEADS = ("from", "supply"), ("to", "demand")
 
 
-def _check_names(sheet: Sheet, parts: _Parts) -> None:
-    """Raises TableFault where a row or a column has no name, or that of another one, or is one of sums."""
+def _check_names(sheet: Sheet, parts: _Parts, *, has_nodes: bool) -> None:
+    """Raises TableFault where a row or a column has no name, or that of another one, or is one of sums; and without a table
+    of nodes, which shows what nodes there are, where it looks like none."""
     nameless = [place for place, header in enumerate(sheet.header) if place and not header]
     if set(nameless) - sheet.blank_columns(nameless):
         raise TableFault(f"{sheet.name}: a column of the matrix has no name")
@@ -269,7 +270,7 @@ def _check_names(sheet: Sheet, parts: _Parts) -> None:
             raise TableFault(f"{sheet.name}: two columns are called {header!r}: give each node one")
         if folded(header) in SUMS:
             raise TableFault(f"{sheet.name}: the column {header!r} looks like one of sums: give the table without it")
-        if parts.beside is not None and _speaks_of_numbers(header):
+        if not has_nodes and _is_no_node(header, parts):
             raise TableFault(
                 f"{sheet.name}: the column {header!r} of the matrix looks like no node; `--columns aside={quoted(header)}` "
                 "leaves it aside"
@@ -281,8 +282,18 @@ def _check_names(sheet: Sheet, parts: _Parts) -> None:
             raise sheet.fault(row, 0, f"it stands on {sheet.place(rows[name])} already")
         if folded(name) in SUMS:
             raise sheet.fault(row, 0, "this looks like a row of sums: give the table without it")
-        if parts.beside is not None and _speaks_of_numbers(name):
+        if not has_nodes and _is_no_node(name, parts):
             raise sheet.fault(row, 0, "this looks like no node: give the table without this row, or call it otherwise")
+
+
+def _is_no_node(name: str, parts: _Parts) -> bool:
+    """Whether a name of a row or a column is that of numbers. What people do may be called `Order 17`."""
+    is_exact = match_of(name, ("cost", "capacity", "low", *_SIDES)) is not None and folded(name) not in SHORT
+    return (
+        is_exact
+        or telling(folded(name), ("cost", "capacity", "low")) is not None
+        or (parts.beside is not None and _speaks_of_numbers(name))
+    )
 
 
 def _speaks_of_numbers(name: str) -> bool:

@@ -19,19 +19,22 @@ from .cells import (
     Undecided,
     bare,
     decimal_sign,
+    is_blank,
     is_empty,
     is_truth,
     name_of,
     not_plain,
     shown,
 )
-from .columns import Found, called, match_of
+from .columns import Found, called, folded, match_of
 from .measures import number_and_unit, unit_of
 from .problem import ZERO, Number, exact, plain
 from .sheets import Sheet
-from .vocabulary import COLUMNS, DITTO
+from .vocabulary import COLUMNS, DITTO, SUMS
 
 PLACES = ("x", "y")
+
+ROW_OF_SUMS = "this looks like a row of sums: give the table without it"
 
 OPTIONAL = ("supply", "demand", "low", "name")
 """The properties that a feature of a map may lack."""
@@ -155,10 +158,20 @@ class Table:
             raise no_column(self.sheet, what, self.found)
         names = self.names_of(self.found.places[what])
         if "" in names:
-            raise self.fault(names.index(""), what, "a name was expected")
+            row = names.index("")
+            raise self.fault(row, what, self._why_nameless(row, what))
         for mark in DITTO.intersection(names):
             raise self.fault(names.index(mark), what, "this looks like `as above`: write the name itself")
         return names
+
+    def _why_nameless(self, row: int, what: str) -> str:
+        """What to do about a row that has no name where one was expected."""
+        cells = [column[row] for column in self.sheet.columns if not is_blank(column[row])]
+        if any(isinstance(cell, str) and folded(cell) in SUMS for cell in cells):
+            return ROW_OF_SUMS
+        if len(cells) == 1:
+            return "a name was expected; if this row is a remark, take it out"
+        return "a name was expected" + ("; if it is that of the row above, write it here too" if row else "")
 
     def names_of(self, place: int) -> List[str]:
         """The names in a column by its place; '' where a cell is empty."""
@@ -222,6 +235,14 @@ class Table:
                 if what == "capacity" and isinstance(cell, str) and cell.strip().lower() in MISSING:
                     expected = (
                         "a number was expected: leave the cell empty where there is no limit, and write 0 where it is 0"
+                    )
+                if (
+                    what == "cost"
+                    and isinstance(cell, str)
+                    and (cell.strip().lower() in MISSING or cell.strip() in "xX")
+                ):
+                    expected = (
+                        "a number was expected: write one in its place, or take the row out if there is no such arc"
                     )
                 raise self.fault(row, what, expected) from None
         raise AssertionError("a cell was refused, and now none is")

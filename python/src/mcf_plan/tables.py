@@ -23,7 +23,7 @@ from .matrices import Listed, as_list
 from .measures import Unit, unit_of
 from .outputs import write_text
 from .problem import ONE, WIDE, ZERO, Arc, Number, Problem, exact, plain
-from .reading import Reading, Table, no_column
+from .reading import ROW_OF_SUMS, Reading, Table, no_column
 from .rounding import round_problem
 from .sheets import WORKBOOKS, Sheet, is_table, part_sheet
 from .sources import Source, find_sheets, sheets_read
@@ -43,9 +43,10 @@ TIME = re.compile(
 PERIOD = re.compile(r"\s*[A-Za-z]{0,2}(\d{1,9})\s*", re.ASCII)
 """The number of a period, as 3, 2026 or Q1."""
 
-AMOUNTS_AND_COSTS = ("supply", "demand", "low", "capacity", "cost")
+SUPPLIES = words_for("supply", "demand")
+"""Words for supplies and demands."""
 
-ROW_OF_SUMS = "this looks like a row of sums: give the table without it"
+AMOUNTS_AND_COSTS = ("supply", "demand", "low", "capacity", "cost")
 
 
 def read_tables(
@@ -143,10 +144,7 @@ def _check_order(nodes: Sequence[Sheet], arcs: Sheet, reading: Reading) -> None:
     """Raises TableFault where the tables stand in another order than that of nodes before arcs, or those of nodes are
     there alone."""
     ends, its_columns = words_for("from", "to"), set(map(folded, arcs.header))
-    if not nodes:
-        is_named = "from" in reading.columns or "to" in reading.columns
-        if words_for("supply", "demand") & its_columns and not ends & its_columns and not is_named:
-            raise TableFault(f"{arcs.name} looks like the table of nodes: give the table of arcs behind it")
+    has_ends = bool(ends & its_columns) or "from" in reading.columns or "to" in reading.columns
     for sheet in nodes:
         if len(ends & set(map(folded, sheet.header))) < 2:
             continue
@@ -154,10 +152,13 @@ def _check_order(nodes: Sequence[Sheet], arcs: Sheet, reading: Reading) -> None:
             raise TableFault(
                 f"{sheet.name} looks like the table of arcs: the table of nodes comes first, then that of arcs"
             )
-        if len(nodes) > 1 and not words_for("supply", "demand") & set(map(folded, sheet.header)):
+        if len(nodes) > 1 and not SUPPLIES & set(map(folded, sheet.header)):
             raise TableFault(
                 f"{sheet.name} looks like a table of arcs, and the last one alone has arcs: put all in one"
             )
+    if SUPPLIES & its_columns and not has_ends and not words_for("cost") & its_columns:
+        advice = "that of arcs comes last" if nodes else "give the table of arcs behind it"
+        raise TableFault(f"{arcs.name} looks like the table of nodes: {advice}")
 
 
 def _lead_back(problem: Problem, sheet: Sheet, tails: Sequence[str], heads: Sequence[str]) -> bool:
@@ -307,6 +308,8 @@ def _read_nodes(problem: Problem, table: Table, ends: Collection[str], others: D
             raise table.fault(row, "node", f"it stands in {others[name]} already")
         if folded(name) in SUMS and name not in ends:
             raise table.fault(row, "node", ROW_OF_SUMS)
+        if folded(name) in SUPPLIES and name not in ends:
+            raise table.fault(row, "node", "this is no node, as it looks: give the table without this row")
     supplies, demands = table.numbers("supply"), table.numbers("demand")
     for row, name in enumerate(names):
         if name not in ends and (supplies[row] or demands[row]) and not SUMS.isdisjoint(folded(name).split()):
