@@ -279,6 +279,13 @@ class Workbooks(InFolder):
                 "row 2, column 'cost': a part of C2:D2 stands there; .* merged",
             ),
             (
+                "a cost over two columns of a matrix",
+                lambda sheet: [sheet.delete_rows(1, 2), sheet.append([None, "Berlin", "Kiel"])]
+                and sheet.append(["Kiel", 2.5, 1])
+                or sheet.merge_cells("B2:C2"),
+                "row 2, column 'Kiel': a part of B2:C2 stands there; .* merged",
+            ),
+            (
                 "a name over two rows",
                 lambda sheet: sheet.append([None, "Berlin", 9, 1]) or sheet.merge_cells("A2:A3"),
                 "row 3, column 'from': a part of A2:A3 stands there; .* merged",

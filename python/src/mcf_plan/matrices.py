@@ -4,16 +4,20 @@ from __future__ import annotations
 
 import re
 from dataclasses import dataclass, field, replace
-from typing import Any, Collection, Dict, Iterable, List, Mapping, NamedTuple, Optional, Sequence, Set, Tuple
+from typing import Any, Collection, Dict, Iterable, List, NamedTuple, Optional, Sequence, Set, Tuple
 
-from .cells import CellFault, TableFault, is_blank, name_of, shown
+from .cells import CellFault, Merged, TableFault, is_blank, name_of, shown
 from .columns import SHORT, Match, folded, is_of_list, match_of, quoted, telling, words_for
 from .formats import counted, some
+from .reading import Reading
 from .sheets import Sheet
 from .vocabulary import AMOUNTS, CLOSED, EARNINGS, FIXED, HARMLESS, LOSSES, SCORES, SUMS
 
 NO_WAY = CLOSED | {"-", "--", "–", "—", "x", "×", "∞", "inf", "n/a"}
 """What a cell says of two nodes between which no arc leads; an empty one says so too."""
+
+NAMES_AS_WELL = frozenset(("max", "min"))
+"""Words for columns that are names of people too."""
 
 _NUMBER = re.compile(r"[^\w(]{0,4}\(?[€$£¥]?\s*[.,]?\d")
 _CORNER = re.compile(r"(.*\w)\W*(?:[/\\|>→]|\bto\b)\W*(\w.*)", re.IGNORECASE)
@@ -50,20 +54,18 @@ class _Parts(NamedTuple):
     is_turned: bool = False
 
 
-def as_list(
-    arcs: Sheet, nodes: Sequence[Sheet], kind: str, chosen: Mapping[str, Sequence[str]]
-) -> Tuple[List[Sheet], Sheet]:
+def as_list(arcs: Sheet, nodes: Sequence[Sheet], kind: str, reading: Reading) -> Tuple[List[Sheet], Sheet]:
     """The tables of nodes and of arcs, the latter as a list where it is a matrix; one that has supplies and demands
-    beside it is a table of nodes too. `chosen` are names of columns that were said.
+    beside it is a table of nodes too.
 
     Raises TableFault where it is a matrix that is not understood.
     """
     sheet = _with_names_first(arcs)
     headers = set(map(folded, sheet.header))
-    has_ends = all(words_for(what) & headers or what in chosen for what in ("from", "to"))
+    has_ends = all(words_for(what) & headers or what in reading.columns for what in ("from", "to"))
     if len(sheet.header) < (2 if nodes else 3) or has_ends:
         return list(nodes), arcs
-    aside = set(map(folded, chosen.get("aside", ())))
+    aside = set(map(folded, reading.columns.get("aside", ())))
     places = [place for place in _named(sheet) if folded(sheet.header[place]) not in aside]
     known = {folded(name) for name in (*_names_in(nodes), *_column(sheet, 0))}
     parts = None if nodes else _tableau(sheet, places)
@@ -84,7 +86,9 @@ def as_list(
     _check_names(sheet, parts, has_nodes=bool(nodes))
     if nodes:
         _check_columns(sheet, parts, known)
-    return _listed(sheet, list(nodes), parts)
+    if not nodes or kind == "asn":
+        _check_sides(sheet, parts)
+    return _listed(sheet, list(nodes), parts, has_default=reading.default_cost is not None)
 
 
 def is_matrix_of(sheet: Sheet, nodes: Sequence[Sheet]) -> bool:
@@ -130,9 +134,14 @@ def _names_in(nodes: Iterable[Sheet]) -> Set[str]:
     return {name for sheet in nodes for place in range(len(sheet.columns)) for name in _column(sheet, place)} - {""}
 
 
+def _is_empty(cell: Any) -> bool:
+    """Whether nothing stands in a cell. One that is merged with others shows what they have."""
+    return is_blank(cell) and not isinstance(cell, Merged)
+
+
 def _says_no_way(cell: Any) -> bool:
     """Whether a cell says that no arc leads there."""
-    return is_blank(cell) or isinstance(cell, str) and (cell.strip().casefold() in NO_WAY or folded(cell) in NO_WAY)
+    return _is_empty(cell) or isinstance(cell, str) and (cell.strip().casefold() in NO_WAY or folded(cell) in NO_WAY)
 
 
 def _has_number(cell: Any) -> bool:
@@ -183,8 +192,8 @@ def _check_columns(sheet: Sheet, parts: _Parts, known: Collection[str]) -> None:
             )
 
 
-def _listed(sheet: Sheet, nodes: List[Sheet], parts: _Parts) -> Tuple[List[Sheet], Sheet]:
-    """The tables of nodes and of arcs of a matrix."""
+def _listed(sheet: Sheet, nodes: List[Sheet], parts: _Parts, *, has_default: bool) -> Tuple[List[Sheet], Sheet]:
+    """The tables of nodes and of arcs of a matrix. Where it `has_default` empty cells have a cost that was said."""
     used = {0, *parts.places, *(() if parts.beside is None else (parts.beside,))}
     sheet.check_short(used, set(parts.rows))
     title, said = _corner(sheet)
@@ -194,7 +203,7 @@ def _listed(sheet: Sheet, nodes: List[Sheet], parts: _Parts) -> Tuple[List[Sheet
             f"{sheet.name}: by the name {sheet.header[0]!r} of the first column arcs lead from {'columns' if said else 'rows'}"
             f", and the supplies are those of {'rows' if said else 'columns'}"
         )
-    cells, none = _cells(sheet, parts)
+    cells, none = _cells(sheet, parts, has_default=has_default)
     _check_costs(sheet, cells)
     if not cells:
         raise TableFault(f"{sheet.name}: this looks like a matrix, and no cell of it says what a unit costs")
@@ -241,10 +250,8 @@ def _corner(sheet: Sheet) -> Tuple[str, Optional[bool]]:
             return "cost", is_turned
         if not found and match_of(first, rows[:1]):
             return "cost", is_turned
-    words = set(folded(corner).split())
-    if words & (AMOUNTS | EARNINGS | FIXED | LOSSES | SCORES) or telling(
-        folded(corner), ("cost", "capacity", "low", *_SIDES)
-    ):
+    is_other = not (AMOUNTS | EARNINGS | FIXED | LOSSES | SCORES).isdisjoint(folded(corner).split())
+    if is_other or telling(folded(corner), ("cost", "capacity", "low", *_SIDES)):
         raise TableFault(
             f"{sheet.name}: this looks like a matrix, and by the name {corner!r} of its first column a cell is not what a "
             "unit costs; call that column `cost` if it is, else give each arc a row of its own, under the columns from, "
@@ -286,35 +293,53 @@ def _check_names(sheet: Sheet, parts: _Parts, *, has_nodes: bool) -> None:
             raise sheet.fault(row, 0, "this looks like no node: give the table without this row, or call it otherwise")
 
 
+def _check_sides(sheet: Sheet, parts: _Parts) -> None:
+    """Raises TableFault where a row is called like a column: without a table of nodes they may be one node or two, and in
+    an assignment they are two."""
+    columns = {_name(sheet.header[place]) for place in parts.places}
+    for row in parts.rows:
+        if _name(sheet.columns[0][row]) in columns:
+            raise sheet.fault(row, 0, "a column of the matrix is called so too: give what is not the same another name")
+
+
 def _is_no_node(name: str, parts: _Parts) -> bool:
-    """Whether a name of a row or a column is that of numbers. What people do may be called `Order 17`."""
-    is_exact = match_of(name, ("cost", "capacity", "low", *_SIDES)) is not None and folded(name) not in SHORT
-    return (
-        is_exact
-        or telling(folded(name), ("cost", "capacity", "low")) is not None
-        or (parts.beside is not None and _speaks_of_numbers(name))
-    )
+    """Whether a name of a row or a column rather is one of numbers. People may be called Max, and tasks `Order 17`."""
+    bare = folded(name)
+    words = set(bare.split())
+    if words & NAMES_AS_WELL:
+        return not words.isdisjoint(HARMLESS)
+    if match_of(name, ("cost", "capacity", "low", *_SIDES)) and bare not in SHORT:
+        return True
+    return parts.beside is not None and telling(bare, ("cost", "capacity", "low", *_SIDES)) is not None
 
 
-def _speaks_of_numbers(name: str) -> bool:
-    """Whether a name speaks of what stands in a table, and so rather is no name of a node."""
-    return telling(folded(name), ("cost", "capacity", "low", *_SIDES)) is not None
-
-
-def _cells(sheet: Sheet, parts: _Parts) -> Tuple[List[Tuple[int, int]], List[Tuple[int, int]]]:
+def _cells(sheet: Sheet, parts: _Parts, *, has_default: bool) -> Tuple[List[Tuple[int, int]], List[Tuple[int, int]]]:
     """The rows and columns of the cells that are arcs, and of those that say that there is none. What stands between a
-    node and itself, if it is 0, is neither."""
-    names = _column(sheet, 0)
+    node and itself, if it is 0, is neither.
+
+    Raises TableFault where 0 stands between two nodes of a matrix that has rows and columns of the same nodes: it may say
+    that no arc leads there.
+    """
+    tails, heads = _column(sheet, 0), [_name(header) for header in sheet.header]
+    are_same = not {tails[row] for row in parts.rows}.isdisjoint(heads[place] for place in parts.places)
     cells: List[Tuple[int, int]] = []
     none: List[Tuple[int, int]] = []
     for row in parts.rows:
         for place in parts.places:
             cell = sheet.columns[place][row]
-            is_itself = names[row] == _name(sheet.header[place])
-            if _says_no_way(cell):
+            is_itself = tails[row] == heads[place]
+            if _says_no_way(cell) and (is_itself or not (has_default and _is_empty(cell))):
                 none += [] if is_itself else [(row, place)]
-            elif not (is_itself and re.fullmatch(r"0([.,]0*)?", str(cell).strip())):
-                cells.append((row, place))
+                continue
+            is_zero = re.fullmatch(r"0([.,]0*)?", str(cell).strip()) is not None
+            if is_zero and are_same and not is_itself:
+                raise sheet.fault(
+                    row,
+                    place,
+                    "this may be no cost, or no arc: write - where no arc leads; where it costs nothing, leave the cell "
+                    "empty and say `--default-cost 0`",
+                )
+            cells += [] if is_zero and is_itself else [(row, place)]
     return cells, none
 
 
@@ -330,7 +355,7 @@ def _check_halves(sheet: Sheet, parts: _Parts, cells: Sequence[Tuple[int, int]])
     if count < 4 or count - len(rows.keys() & places.keys()) > 2 or 4 * len(filled) <= count * (count - 1):
         return
     for tail, head in filled:
-        if head in rows and tail in places and not is_blank(sheet.columns[places[tail]][rows[head]]):
+        if head in rows and tail in places and not _is_empty(sheet.columns[places[tail]][rows[head]]):
             return
     raise TableFault(
         f"{sheet.name}: one half alone of this matrix is filled: fill the other where the way back costs the same, and "
@@ -371,38 +396,32 @@ def _title(name: str) -> str:
 
 
 def _nodes_of(sheet: Sheet, parts: _Parts) -> Listed:
-    """The table of nodes of a matrix with supplies beside it and demands below it."""
+    """The table of nodes of a matrix with supplies beside it and demands below it, or the other way round."""
     beside, below = parts.beside, parts.below
     assert beside is not None and below is not None
-    # A node may have a row and a column.
-    rows: Dict[str, List[Tuple[int, int]]] = {}
-    nothing = (below, 0)
-    for row in parts.rows:
-        rows[_name(sheet.columns[0][row])] = [(row, 0), (row, beside), nothing]
-    for place in parts.places:
-        rows.setdefault(_name(sheet.header[place]), [(-1, place), nothing, nothing])[2] = (below, place)
-    for name, (_, *amounts_at) in rows.items():
-        for row, place in amounts_at:
-            if (row, place) != nothing and is_blank(sheet.columns[place][row]):
-                raise sheet.fault(row, place, f"a number was expected: write 0 if {name!r} is a node, else take it out")
-    origins = list(zip(*rows.values()))
-    columns: List[Sequence[Any]] = [list(rows)]
-    columns += [["" if at == nothing else sheet.columns[at[1]][at[0]] for at in column] for column in origins[1:]]
-    amounts = [sheet.header[beside], _name(sheet.columns[0][below])]
+    names = [(row, 0) for row in parts.rows] + [(-1, place) for place in parts.places]
+    amounts = [(row, beside) for row in parts.rows] + [(below, place) for place in parts.places]
+    cells = [sheet.columns[place][row] for row, place in amounts]
+    nodes = [sheet.header[place] if row < 0 else sheet.columns[0][row] for row, place in names]
+    for name, cell, (row, place) in zip(nodes, cells, amounts):
+        if _is_empty(cell):
+            raise sheet.fault(row, place, f"a number was expected: write 0 if {name!r} is a node, else take it out")
+    count = len(parts.rows)
+    titles = [sheet.header[beside], _name(sheet.columns[0][below])]
+    what = ("demands", "supplies") if parts.is_turned else ("supplies", "demands")
     made = Listed(
         sheet.name,
-        ["name", *map(_title, amounts)],
-        columns,
-        [sheet.lines[row if row >= 0 else below] for row, _ in origins[0]],
+        ["name", *map(_title, titles)],
+        [nodes, [*cells[:count], *[""] * (len(cells) - count)], [*[""] * count, *cells[count:]]],
+        [sheet.lines[row] for row, _ in amounts],
         sheet.word,
         sheet.delimiter,
         of=sheet,
-        origins=origins,
+        origins=[names, amounts, amounts],
     )
-    what = ("demands", "supplies") if parts.is_turned else ("supplies", "demands")
     made.notes.append(
-        f"{sheet.name}: {what[0]} stand in the column {amounts[0]!r}, and {what[1]} on {sheet.place(below)}"
+        f"{sheet.name}: {what[0]} stand in the column {titles[0]!r}, and {what[1]} on {sheet.place(below)}"
     )
-    if not is_blank(sheet.columns[beside][below]):
+    if not _is_empty(sheet.columns[beside][below]):
         made.notes.append(f"{sheet.name}: the sum where both meet is left aside")
     return made

@@ -84,7 +84,7 @@ def read_tables(
     of_nodes: List[Source] = list(nodes) if isinstance(nodes, (list, tuple)) else [] if nodes is None else [nodes]
     sheets, arc_sheet = find_sheets(of_nodes, arcs, reading.encoding)
     _check_chosen(reading, sheets, arc_sheet)
-    node_sheets, arc_sheet = as_list(arc_sheet, sheets, kind, reading.columns)
+    node_sheets, arc_sheet = as_list(arc_sheet, sheets, kind, reading)
     _check_order(node_sheets, arc_sheet, reading)
     unused = ("cost",) if kind == "max" else ()
     arc_columns = find_columns(
