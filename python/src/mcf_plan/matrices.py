@@ -149,17 +149,15 @@ def _has_number(cell: Any) -> bool:
 
 
 def _is_table_of_costs(sheet: Sheet, places: Sequence[int]) -> bool:
-    """Whether each column of an assignment without a table of nodes has costs: there are numbers in it and nothing
-    else, and no name of it is that of a column of a list. Each name in the first column stands there once."""
+    """Whether a sheet without a table of nodes has costs: there are numbers in its columns and nothing else, and no name
+    of them is that of a column of a list. Each name in the first column stands there once."""
     names = _column(sheet, 0)
     if len(set(names)) < len(names) or "" in names:
         return False
-    for place in places:
-        header = sheet.header[place]
-        cells = [cell for cell in sheet.columns[place] if not _says_no_way(cell)]
-        if is_of_list(header) or folded(header) in HARMLESS or not cells or not all(map(_has_number, cells)):
-            return False
-    return True
+    if any(is_of_list(sheet.header[place]) or folded(sheet.header[place]) in HARMLESS for place in places):
+        return False
+    cells = [cell for place in places for cell in sheet.columns[place] if not _says_no_way(cell)]
+    return bool(cells) and all(map(_has_number, cells))
 
 
 def _amount(name: str) -> Optional[Match]:
@@ -209,7 +207,7 @@ def _listed(sheet: Sheet, nodes: List[Sheet], parts: _Parts, *, has_default: boo
         raise TableFault(f"{sheet.name}: this looks like a matrix, and no cell of it says what a unit costs")
     _check_halves(sheet, parts, cells)
     arcs = _arcs_of(sheet, cells, title, is_turned)
-    arcs.may_turn = parts.beside is None and said is None
+    arcs.may_turn = parts.beside is None and said is None and not _are_same(sheet, parts)
     ends = ("column", "row") if is_turned else ("row", "column")
     names = [sheet.header[place] for place in parts.places]
     arcs.notes.append(
@@ -313,6 +311,12 @@ def _is_no_node(name: str, parts: _Parts) -> bool:
     return parts.beside is not None and telling(bare, ("cost", "capacity", "low", *_SIDES)) is not None
 
 
+def _are_same(sheet: Sheet, parts: _Parts) -> bool:
+    """Whether a row is called like a column."""
+    columns = {_name(sheet.header[place]) for place in parts.places}
+    return any(_name(sheet.columns[0][row]) in columns for row in parts.rows)
+
+
 def _cells(sheet: Sheet, parts: _Parts, *, has_default: bool) -> Tuple[List[Tuple[int, int]], List[Tuple[int, int]]]:
     """The rows and columns of the cells that are arcs, and of those that say that there is none. What stands between a
     node and itself, if it is 0, is neither.
@@ -321,7 +325,7 @@ def _cells(sheet: Sheet, parts: _Parts, *, has_default: bool) -> Tuple[List[Tupl
     that no arc leads there.
     """
     tails, heads = _column(sheet, 0), [_name(header) for header in sheet.header]
-    are_same = not {tails[row] for row in parts.rows}.isdisjoint(heads[place] for place in parts.places)
+    are_same = _are_same(sheet, parts)
     cells: List[Tuple[int, int]] = []
     none: List[Tuple[int, int]] = []
     for row in parts.rows:
