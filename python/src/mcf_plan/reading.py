@@ -252,7 +252,7 @@ class Table:
         place = self.found.places[what]
         parted: Dict[str, Tuple[str, str]] = {}
         for cell in self.sheet.columns[place]:
-            if is_empty(cell) or isinstance(cell, str) and (cell in parted or cell.strip().lower() in NO_LIMIT):
+            if is_empty(cell) or isinstance(cell, str) and (cell in parted or cell.strip().lower() in NO_LIMIT | {"0"}):
                 continue
             found = number_and_unit(cell) if isinstance(cell, str) else None
             unit = unit_of(found[1]) if found is not None else None

@@ -10,27 +10,27 @@ from typing import Dict, Tuple
 
 COLUMNS: Dict[str, Tuple[str, ...]] = {
     "node": ("name", "node", "id", "place", "town", "city", "site", "location", "person", "key", "plant", "customer")
-    + ("warehouse", "depot", "node name", "node id", "factory", "shop", "store", "market", "retailer", "outlet", "hub")
-    + ("Knoten", "Ort", "Stadt", "Standort", "Lager", "Werk", "Kunde", "Bezeichnung", "Fabrik", "Filiale", "Markt")
-    + ("nom", "nœud", "noeud", "lieu", "ville", "entrepôt", "dépôt", "usine", "client", "magasin", "marché")
-    + ("nombre", "nodo", "lugar", "ciudad", "sitio", "almacén", "planta", "cliente", "tienda", "mercado")
-    + ("nome", "luogo", "località", "città", "sede", "sito", "magazzino", "stabilimento", "negozio", "punto")
-    + ("nó", "local", "cidade", "localidade", "armazém", "fábrica", "loja")
-    + ("naam", "knooppunt", "plaats", "stad", "locatie", "magazijn", "fabriek", "klant", "winkel"),
+    + ("warehouse", "depot", "node name", "node id")
+    + ("Knoten", "Ort", "Stadt", "Standort", "Lager", "Werk", "Kunde", "Bezeichnung")
+    + ("nom", "nœud", "noeud", "lieu", "ville", "entrepôt", "usine", "client")
+    + ("nombre", "nodo", "lugar", "ciudad", "sitio", "almacén", "planta", "cliente")
+    + ("nome", "luogo", "località", "città", "sito", "magazzino")
+    + ("nó", "cidade", "localidade", "armazém")
+    + ("naam", "knooppunt", "plaats", "stad", "locatie", "magazijn"),
     "supply": ("supply", "supplies", "stock", "available", "amount", "offer", "production", "inventory")
     + ("net supply",)
-    + ("Angebot", "Bestand", "Vorrat", "Lagerbestand", "Produktion", "verfügbar")
+    + ("Angebot", "Bestand", "Vorrat", "Lagerbestand", "Produktion", "verfügbar", "verfügbare")
     + ("offre", "disponible", "production", "approvisionnement")
     + ("oferta", "existencias", "suministro", "producción")
     + ("offerta", "disponibilità", "disponibile", "giacenza", "scorta", "scorte", "produzione", "fornitura")
     + ("disponibilidade", "disponível", "estoque", "existências", "produção", "fornecimento")
     + ("aanbod", "voorraad", "beschikbaar", "productie"),
     "demand": ("demand", "demands", "need", "needs", "needed", "wanted", "orders", "order", "required", "consumption")
-    + ("Bedarf", "Nachfrage", "Bestellung", "Bestellungen", "Verbrauch")
+    + ("Bedarf", "Nachfrage", "benötigt", "benötigte", "Bestellung", "Bestellungen", "Verbrauch")
     + ("demande", "besoin", "besoins", "commande", "commandes", "consommation")
     + ("demanda", "necesidad", "pedido", "pedidos", "consumo")
     + ("domanda", "fabbisogno", "richiesta", "richieste", "ordine", "ordini")
-    + ("procura", "necessidade", "encomenda", "encomendas")
+    + ("procura", "necessária", "necesaria", "necessidade", "encomenda", "encomendas")
     + ("vraag", "behoefte", "bestelling", "bestellingen", "verbruik"),
     "from": ("from", "tail", "source", "origin", "src", "start", "from node", "start node", "sender", "supplier")
     + ("source node", "from id", "source id", "origin id", "from name", "source name", "origin name", "from place")
@@ -39,7 +39,7 @@ COLUMNS: Dict[str, Tuple[str, ...]] = {
     + ("desde", "origen", "salida", "remitente")
     + ("da", "partenza", "mittente", "fornitore")
     + ("origem", "partida", "remetente", "fornecedor")
-    + ("van", "herkomst", "oorsprong", "vertrek", "afzender", "leverancier"),
+    + ("herkomst", "oorsprong", "vertrek", "afzender", "leverancier"),
     "to": ("to", "head", "target", "destination", "dst", "dest", "end", "to node", "end node", "receiver")
     + ("target node", "to id", "target id", "destination id", "to name", "target name", "destination name", "to place")
     + ("nach", "bis", "zu", "Ziel", "Zielort", "Empfänger")
@@ -52,7 +52,7 @@ COLUMNS: Dict[str, Tuple[str, ...]] = {
     + ("mindestens", "Untergrenze", "untere Grenze", "untere Schranke", "Mindestmenge")
     + ("au moins", "borne inférieure", "limite inférieure")
     + ("mínimo", "al menos", "cota inferior", "límite inferior")
-    + ("minimo", "almeno", "limite inferiore", "pelo menos")
+    + ("minimo", "minima", "minimale", "almeno", "limite inferiore", "pelo menos")
     + ("minimaal", "ondergrens", "ten minste"),
     "capacity": (
         "capacity",
@@ -80,7 +80,17 @@ COLUMNS: Dict[str, Tuple[str, ...]] = {
     )
     + ("capacité", "capacité max", "capacité maximale", "au plus", "borne supérieure", "limite supérieure", "limite")
     + ("capacidad", "capacidad máxima", "máximo", "como máximo", "cota superior", "límite superior", "límite")
-    + ("capacità", "capacità massima", "massimo", "al massimo", "limite superiore", "portata")
+    + (
+        "maximale",
+        "máxima",
+        "capacità",
+        "capacità massima",
+        "massimo",
+        "massima",
+        "al massimo",
+        "limite superiore",
+        "portata",
+    )
     + ("capacidade", "capacidade máxima", "no máximo", "limite superior")
     + ("capaciteit", "max. capaciteit", "maximale capaciteit", "maximaal", "bovengrens", "ten hoogste"),
     "cost": ("cost", "costs", "unit cost", "unit costs", "cost per unit", "price", "unit price", "freight rate", "rate")
@@ -101,8 +111,12 @@ COLUMNS: Dict[str, Tuple[str, ...]] = {
 `capacity (t)`, `cost_eur` or `cost [EUR/t]`."""
 
 STAND_INS: Dict[str, Tuple[str, ...]] = {
+    "node": ("factory", "mill", "shop", "store", "market", "retailer", "outlet", "hub", "dc")
+    + ("Fabrik", "Filiale", "Markt", "Laden", "dépôt", "magasin", "marché", "fábrica", "tienda", "mercado")
+    + ("stabilimento", "deposito", "negozio", "sede", "punto vendita", "local", "loja", "fabriek", "klant", "winkel"),
+    "from": ("van",),
     "cost": ("weight", "distance", "Entfernung", "Distanz", "distancia", "Gewicht", "poids", "peso")
-    + ("distanza", "distância", "afstand")
+    + ("distanza", "distância", "afstand"),
 }
 """Names of columns that are taken where no other column is that thing, which is told."""
 
