@@ -32,10 +32,12 @@ from .vocabulary import (
     EXTRAS,
     FIXED,
     HARMLESS,
+    LABELLING,
     LABELS,
     LIMITING,
     LOSSES,
     LOTS,
+    NO_SLIPS,
     MUSTS,
     OF_ASSIGNMENTS,
     OWN,
@@ -554,7 +556,7 @@ def _why_it_matters(sheet: Sheet, place: int, kinds: Tuple[Sequence[str], Sequen
         return "a cost that rises with the amount takes an arc for each range, with its room as capacity; none can fall"
     if "cost" in of_table and tokens & EARNINGS:
         return "what a unit earns is a cost below 0: take it off the cost"
-    near = None if tokens & PARTS else _near(name, header, open_kinds)
+    near = None if tokens & (PARTS | NO_SLIPS) else _near(name, header, open_kinds)
     if near:
         return f"did you mean {near[0]!r}? `--columns {near[1]}={quoted(header)}` says so"
     what = telling(name, open_kinds)
@@ -566,7 +568,12 @@ def _why_numbers_matter(sheet: Sheet, place: int, kinds: Sequence[str]) -> str:
     header = sheet.header[place]
     tokens = {*folded(header).split(), folded(header).replace(" ", "")}
     words = LOTS | REPEATS | CHANCES | SHARES | EXTRAS
-    if not tokens & words and "%" not in header or not _may_count(_cells_of(sheet, place) - {"1"}):
+    if (
+        tokens & LABELLING
+        or not tokens & words
+        and "%" not in header
+        or not _are_numbers(_cells_of(sheet, place) - {"1"})
+    ):
         return ""
     if tokens & LOTS:
         return "amounts go in any steps, and from nothing on: that they go in lots, or not at all, can't be said"
@@ -620,6 +627,11 @@ def _may_count(cells: Collection[str]) -> bool:
     return bool(cells) and all(
         re.match(r"\s*[+-]?[.,]?\d", cell) or cell.strip().lower() in YES_OR_NO | {"x"} for cell in cells
     )
+
+
+def _are_numbers(cells: Collection[str]) -> bool:
+    """Whether there are cells, and each has a number."""
+    return bool(cells) and all(re.match(r"\s*[+-]?[.,]?\d", cell) for cell in cells)
 
 
 def _may_be_capacity(sheet: Sheet, place: int) -> bool:

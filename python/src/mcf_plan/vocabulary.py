@@ -15,7 +15,7 @@ COLUMNS: Dict[str, Tuple[str, ...]] = {
     + ("nom", "nœud", "noeud", "lieu", "ville", "entrepôt", "usine", "client")
     + ("nombre", "nodo", "lugar", "ciudad", "sitio", "almacén", "planta", "cliente")
     + ("nome", "luogo", "località", "città", "sito", "magazzino")
-    + ("nó", "cidade", "localidade", "armazém")
+    + ("cidade", "localidade", "armazém")
     + ("naam", "knooppunt", "plaats", "stad", "locatie", "magazijn"),
     "supply": ("supply", "supplies", "stock", "available", "amount", "offer", "production", "inventory")
     + ("net supply",)
@@ -113,7 +113,19 @@ COLUMNS: Dict[str, Tuple[str, ...]] = {
 STAND_INS: Dict[str, Tuple[str, ...]] = {
     "node": ("factory", "mill", "shop", "store", "market", "retailer", "outlet", "hub", "dc")
     + ("Fabrik", "Filiale", "Markt", "Laden", "dépôt", "magasin", "marché", "fábrica", "tienda", "mercado")
-    + ("stabilimento", "deposito", "negozio", "sede", "punto vendita", "local", "loja", "fabriek", "klant", "winkel"),
+    + (
+        "stabilimento",
+        "deposito",
+        "negozio",
+        "sede",
+        "punto vendita",
+        "nó",
+        "local",
+        "loja",
+        "fabriek",
+        "klant",
+        "winkel",
+    ),
     "from": ("van",),
     "cost": ("weight", "distance", "Entfernung", "Distanz", "distancia", "Gewicht", "poids", "peso")
     + ("distanza", "distância", "afstand"),
@@ -190,6 +202,9 @@ WORDY = frozenset(
     ).split()
 )
 """Columns of which each cell is looked at, since it may say of its row what other columns have as headings."""
+
+NO_SLIPS = frozenset("custom customs mass massive port portal ports producer producers score scores".split())
+"""Words that are near those of columns in other languages, and are no slips of the pen."""
 
 CLOSED = frozenset(
     (
@@ -269,7 +284,7 @@ PARTS = frozenset(
         "unite devise produit article qualite jour semaine mois trimestre periode scenario variante heure saison "
         "unidad moneda producto articulo calidad dia semana mes trimestre fecha ano periodo escenario variante hora "
         "temporada turno "
-        "unita valuta prodotto merce articolo giorno settimana mese data anno ora stagione "
+        "unita valuta prodotto merce articolo giorno settimana mese anno ora stagione "
         "unidade moeda produto mercadoria artigo qualidade ano cenario estacao "
         "eenheid kwaliteit dag maand kwartaal jaar uur seizoen "
     ).split()
@@ -320,11 +335,14 @@ BESIDES = frozenset(
 LOTS = frozenset(
     (
         "lot lots lotsize batch batches batchsize moq multiple multiples pack packs packsize "
-        "los lose losgrosse gebinde gebindegrosse mindestbestellmenge verpackungseinheit "
+        "los losgrosse gebinde gebindegrosse mindestbestellmenge verpackungseinheit "
         "lote lotes lotto lotti partij partijgrootte "
     ).split()
 )
 """Columns that say in which lots amounts go, or from which amount on."""
+
+LABELLING = frozenset("no nr number id code name class level nummer numero klasse stufe".split())
+"""Words that make a label of what would be a number otherwise, as in `lot no`."""
 
 REPEATS = frozenset(
     (
