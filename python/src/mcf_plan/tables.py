@@ -335,7 +335,8 @@ def _read_nodes(problem: Problem, table: Table, ends: Collection[str], others: D
         header = sheet.header[table.found.places[there]]
         sheet.notes.append(f"{sheet.name}: the column {header!r} is left aside, since none says {called(other)}")
     others.update(dict.fromkeys(names, sheet.name))
-    _tell_empty(table, names)
+    if problem.kind == "min":
+        _tell_empty(table, names)
     table.tell_sign()
 
 
