@@ -239,7 +239,7 @@ class Table:
                 if (
                     what == "cost"
                     and isinstance(cell, str)
-                    and (cell.strip().lower() in MISSING or cell.strip() in "xX")
+                    and (cell.strip().lower() in MISSING or cell.strip() in ("x", "X"))
                 ):
                     expected = (
                         "a number was expected: write one in its place, or take the row out if there is no such arc"

@@ -12,7 +12,7 @@ import unicodedata
 from collections import Counter
 from decimal import Decimal
 from io import StringIO
-from itertools import chain
+from itertools import chain, permutations
 from pathlib import Path
 from typing import TYPE_CHECKING, Any, Collection, Dict, Iterable, List, Mapping, Optional, Sequence, Tuple, Union
 
@@ -94,9 +94,8 @@ def read_tables(
     tails, heads = arc_table.names("from"), arc_table.names("to")
     ends = dict.fromkeys(chain.from_iterable(zip(tails, heads)))
     tables = [_node_table(sheet, node_sheets, ends, arc_table) for sheet in node_sheets]
-    for table in (*tables, arc_table):
-        for other in (*tables, arc_table) if tables else ():
-            table.look_at(other)
+    for table, other in permutations((*tables, arc_table), 2):
+        table.look_at(other)
     others: Dict[str, str] = {}
     for table in tables:
         _read_nodes(problem, table, ends, others)

@@ -126,6 +126,8 @@ STAND_INS: Dict[str, Tuple[str, ...]] = {
         "klant",
         "winkel",
     ),
+    "supply": ("availability",),
+    "demand": ("requirement", "requirements"),
     "from": ("van",),
     "cost": ("weight", "distance", "Entfernung", "Distanz", "distancia", "Gewicht", "poids", "peso")
     + ("distanza", "distância", "afstand"),
