@@ -2,6 +2,7 @@
 
 import contextlib
 import csv
+import datetime
 import io
 import json
 import os
@@ -142,8 +143,6 @@ class Workbooks(InFolder):
 
     @needs("openpyxl")
     def test_cells(self):
-        import datetime
-
         for title, row, wanted in (
             ("numbers", ["Kiel", "Berlin", 9, 2.5], "cost 12.5"),
             ("an empty capacity", ["Kiel", "Berlin", None, 2.5], "cost 12.5"),
@@ -280,6 +279,13 @@ class Workbooks(InFolder):
                 "row 2, column 'cost': a part of C2:D2 stands there; .* merged",
             ),
             (
+                "a cost over two columns of a matrix",
+                lambda sheet: [sheet.delete_rows(1, 2), sheet.append([None, "Berlin", "Kiel"])]
+                and sheet.append(["Kiel", 2.5, 1])
+                or sheet.merge_cells("B2:C2"),
+                "row 2, column 'Kiel': a part of B2:C2 stands there; .* merged",
+            ),
+            (
                 "a name over two rows",
                 lambda sheet: sheet.append([None, "Berlin", 9, 1]) or sheet.merge_cells("A2:A3"),
                 "row 3, column 'from': a part of A2:A3 stands there; .* merged",
@@ -347,8 +353,6 @@ class Workbooks(InFolder):
 
     @needs("openpyxl")
     def test_names_that_are_dates_and_times(self):
-        import datetime
-
         import openpyxl
         from openpyxl.utils.datetime import CALENDAR_MAC_1904, CALENDAR_WINDOWS_1900
 
@@ -391,6 +395,12 @@ class Workbooks(InFolder):
     def test_sheets_by_name(self):
         arcs = [HEAD, ["Kiel", "Berlin", 9, 2.5]]
         rest = [["what", "sum"], ["all", 3]]
+        depots, shops = [["Depot", "Stock"], ["Kiel", 5]], [["Shop", "Demand"], ["Berlin", 5]]
+        matrix = [[None, "Berlin", "Kiel"], ["Kiel", 2.5, None]]
+        january, february = datetime.date(2026, 1, 1), datetime.date(2026, 2, 1)
+        days = [["day", "name", "supply"], [None, january, 5], [None, february, -5]]
+        of_days = [[None, january, february], [january, 0, 2.5]]
+        tableau = [["from/to", "Berlin", "Bonn", "Supply"], ["Kiel", 2.5, 4, 5], ["Demand", 5, 0, None]]
         for title, sheets, words, wanted in (
             ("English", {"Nodes": NODES, "Arcs": arcs}, ["b.xlsx"], "cost 12.5"),
             ("German", {"Orte": NODES, "Straßen": arcs}, ["b.xlsx"], "cost 12.5"),
@@ -420,6 +430,41 @@ class Workbooks(InFolder):
             ("empty ones", {"nodes": NODES, "arcs": arcs, "Sheet3": []}, ["b.xlsx"], "cost 12.5"),
             ("two of a name", {"nodes": NODES, "Orte": NODES, "arcs": arcs}, ["b.xlsx"], "which of its sheets"),
             ("arcs alone", {"Sheet1": arcs}, ["b.xlsx"], "a cheapest plan wants supplies"),
+            ("Italian", {"Nodi": NODES, "Archi": arcs}, ["b.xlsx"], "cost 12.5"),
+            (
+                "three",
+                {"Depots": depots, "Shops": shops, "Costs": arcs},
+                ["b.xlsx"],
+                "cost 12.5\n(.*\n)*.*'Shops' have",
+            ),
+            ("three, said", {"A": depots, "B": shops, "C": arcs}, ["b.xlsx:B", "b.xlsx:A", "b.xlsx:C"], "cost 12.5"),
+            (
+                "three, one of them kept",
+                {"A": depots, "B": shops, "C": arcs},
+                ["b.xlsx", "--table", "b.xlsx:b"],
+                "the sheet 'b' is read",
+            ),
+            (
+                "a matrix",
+                {"A": NODES, "Costs": matrix},
+                ["b.xlsx"],
+                "cost 12.5\n(.*\n)*.*sheet 'Costs': this is a matrix",
+            ),
+            (
+                "depots, shops and a matrix",
+                {"A": depots, "B": shops, "C": matrix},
+                ["b.xlsx"],
+                "cost 12.5\n(.*\n)*.* 'C' the arcs",
+            ),
+            (
+                "a matrix of days",
+                {"A": days, "B": of_days},
+                ["b.xlsx"],
+                "cost 12.5\n(.*\n)*.*nodes 2026-01-01, 2026-02-01;",
+            ),
+            ("a matrix that begins further in", {"S": [[None, *row] for row in tableau]}, ["b.xlsx"], "cost 12.5"),
+            ("a matrix with supplies", {"S": tableau}, ["b.xlsx"], "cost 12.5\n(.*\n)*.* and demands on row 3"),
+            ("a sheet without rows", {"A": depots, "B": shops, "C": [["x"]]}, ["b.xlsx"], "which of its sheets"),
         ):
             with self.subTest(title):
                 book("b.xlsx", **sheets)
@@ -812,6 +857,24 @@ class Frames(unittest.TestCase):
                 read_tables(wrong_nodes, wrong_arcs)
         noted = read_tables(nodes, arcs.rename(columns={"cost": "cost_eur"})).notes
         self.assertRegex("\n".join(noted), "^the frame of arcs: the column 'cost_eur' is the cost")
+
+    @needs("pandas")
+    def test_matrices(self):
+        """The index has the names of the rows, or the first column has."""
+        import pandas
+
+        nodes = pandas.DataFrame({"name": ["Kiel", "Ulm", "Bonn"], "supply": [5, -3, -2]})
+        costs = pandas.DataFrame([[2.5, 1], [0, 4]], index=["Kiel", "Ulm"], columns=["Ulm", "Bonn"])
+        for frame in (costs, costs.rename_axis("from"), costs.rename_axis("from").reset_index()):
+            problem = read_tables(nodes, frame)
+            self.assertEqual(problem.solve().cost, Decimal("9.5"))
+            self.assertEqual(len(problem.arcs), 3)
+        with self.assertRaisesRegex(TableFault, "row 'Kiel', column 'Bonn': 'x y' stands there; a number was expected"):
+            read_tables(nodes, costs.astype(object).replace(1, "x y"))
+        people = read_tables(None, pandas.DataFrame([[3, 5], [2, 9]], ["Ann", "Bob"], ["early", "late"]), kind="asn")
+        self.assertEqual(people.solve().cost, 7)
+        depots, shops = nodes[:1], pandas.DataFrame({"shop": ["Ulm", "Bonn"], "demand": [3, 2]})
+        self.assertEqual(read_tables([depots, shops], costs).solve().cost, Decimal("9.5"))
 
     def test_what_is_no_frame(self):
         for nodes, arcs, which in (({"name": ["a"]}, {}, "nodes"), (None, [1], "arcs")):

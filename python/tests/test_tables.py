@@ -170,6 +170,34 @@ class Tables(unittest.TestCase):
             self.assertEqual(*found, repr(text))
         self.assertGreater(count, 80)
 
+    def test_matrices_and_lists_are_read_alike(self):
+        drawn = random.Random(7)
+        for _ in range(60):
+            rows = [f"D{number}" for number in range(drawn.randint(2, 5))]
+            columns = [f"S{number}" for number in range(drawn.randint(2, 5))]
+            costs = {(row, column): drawn.choice(["0", "3", "2.5", "7.25"]) for row in rows for column in columns}
+            for pair in drawn.sample(sorted(costs), len(costs) // 3):
+                del costs[pair]
+            amounts = {name: str(drawn.randint(0, 9)) for name in (*rows, *columns)}
+            corner, first, second = drawn.choice([("", rows, columns), ("to/from", columns, rows)])
+            what = ("supply", "demand") if first is rows else ("demand", "supply")
+            lines = [[corner, *second]]
+            for name in first:
+                pairs = [(name, other) if first is rows else (other, name) for other in second]
+                lines.append([name, *(costs.get(pair, drawn.choice(["", "-", "x"])) for pair in pairs)])
+            with_amounts = [[*line, amounts.get(line[0], what[0])] for line in lines]
+            with_amounts.append([what[1], *map(amounts.__getitem__, second), ""])
+            of_nodes = [["name", "supply", "demand"], *([name, amounts[name], "0"] for name in rows)]
+            of_nodes += [[name, "0", amounts[name]] for name in columns]
+            of_arcs = [["from", "to", "cost"], *([*pair, cost] for pair, cost in costs.items())]
+            nodes, arcs, matrix, alone = (
+                "".join(",".join(line) + "\n" for line in table) for table in (of_nodes, of_arcs, lines, with_amounts)
+            )
+            wanted = self.read(nodes, arcs)
+            for found in (self.read(nodes, matrix), self.read(None, alone)):
+                self.assertEqual(found.nodes, wanted.nodes, alone)
+                self.assertEqual(sorted(found.arcs), sorted(wanted.arcs), alone)
+
     def test_a_plan_as_a_table(self):
         plan = self.read(NODES, "from,to,capacity,cost\nKiel,Berlin,3,1.5\nKiel,Berlin,,2.5\n").solve()
         path = Path(self.folder.name) / "plan.csv"

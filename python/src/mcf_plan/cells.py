@@ -46,10 +46,14 @@ ERROR = re.compile(r"#(N/?[AVD]|\S*[!?])|#{2,}|Err:\d+|#¿.*\?")
 
 MISSING = frozenset(("n/a", "null", "none", "nan", "nil", "nul", "na", "<na>", "-", "--", "–", "—", "?", "."))
 NO_NAME = frozenset(("n/a", "N/A", "null", "NULL", "nan", "NaN", "<NA>"))
-YES_OR_NO = frozenset(("true", "false", "yes", "no", "wahr", "falsch", "ja", "nein", "vrai", "faux", "oui", "non"))
+YES_OR_NO = frozenset(
+    ("true", "false", "yes", "no", "wahr", "falsch", "ja", "nein", "vrai", "faux", "oui", "non", "verdadero", "falso")
+    + ("sí", "si", "vero", "sì", "verdadeiro", "sim", "não", "waar", "onwaar", "nee")
+)
 NO_LIMIT = frozenset(
     ("inf", "infinity", "infinite", "∞", "unlimited", "no limit", "unbegrenzt", "illimité", "illimitée")
-    + ("sans limite", "ilimitado", "ilimitada", "sin límite", "sin limite")
+    + ("sans limite", "ilimitado", "ilimitada", "sin límite", "sin limite", "illimitato", "illimitata")
+    + ("senza limite", "sem limite", "onbeperkt")
 )
 """Words by which a capacity says that there is no limit; so does an empty cell."""
 

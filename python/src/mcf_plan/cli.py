@@ -265,8 +265,8 @@ def _add_tables(parser: argparse.ArgumentParser) -> None:
         metavar="TABLE",
         nargs="+",
         type=file_named,
-        help="the tables of nodes and arcs (.csv, .tsv, .xlsx, or book.xlsx:SHEET), one workbook or map (.geojson) "
-        "that has both, that of arcs alone, or a problem text",
+        help="the tables of nodes, and behind them that of arcs (.csv, .tsv, .xlsx, or book.xlsx:SHEET), one workbook or "
+        "map (.geojson) that has all, that of arcs alone, or a problem text",
     )
     parser.add_argument(
         "--kind",
@@ -404,10 +404,8 @@ def _tell_of(problem: Problem) -> None:
 def _read_source(options: argparse.Namespace) -> Problem:
     """The problem of the tables, or of the text."""
     tables = options.tables
-    if len(tables) == 2 and "-" in tables:
+    if len(tables) > 1 and "-" in tables:
         raise TableFault("-: a table is a file; the input is one by the name of /dev/stdin")
-    if len(tables) > 2:
-        raise TableFault(f"{len(tables)} tables are given, and there are two: that of nodes, then that of arcs")
     if len(tables) == 1 and not is_table(tables[0]):
         return _read_text(tables[0], options)
     for what, name in (("--source", options.source), ("--sink", options.sink)):
@@ -419,7 +417,7 @@ def _read_source(options: argparse.Namespace) -> Problem:
     for what, name in (pair for pairs in options.columns for pair in pairs):
         columns.setdefault(what, []).append(name)
     return read_tables(
-        tables[0] if len(tables) == 2 else None,
+        tables[:-1],
         tables[-1],
         kind=options.kind or "min",
         balance=options.balance,

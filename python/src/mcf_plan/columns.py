@@ -14,31 +14,44 @@ from itertools import permutations
 from typing import Any, Collection, Dict, Iterable, List, Mapping, NamedTuple, Optional, Sequence, Set, Tuple
 
 from .cells import NO_LIMIT, YES_OR_NO, TableFault, is_blank, is_empty
+from .formats import some
 from .measures import Unit, is_amount, unit_of
 from .sheets import Sheet
 from .vocabulary import (
     AMOUNTS,
+    ARC_COLUMNS,
     BESIDES,
     BOTH_WAYS,
     BY_TRADE,
+    CHANCES,
     CLOSED,
     COLUMNS,
     COSTLY,
     EARNINGS,
     ENDS,
+    EXTRAS,
     FIXED,
     HARMLESS,
+    LABELLING,
     LABELS,
     LIMITING,
     LOSSES,
+    LOTS,
+    NO_SLIPS,
+    MUSTS,
     OF_ASSIGNMENTS,
     OWN,
     OWN_OF_NODES,
     PARTS,
+    PERIODS,
+    QUANTITIES,
     RANGING,
+    REPEATS,
     SCALES,
+    SHARES,
     STAND_INS,
     SWITCHES,
+    THROUGHPUT,
     TIERS,
     TWO_WAYS,
     WORDY,
@@ -48,6 +61,11 @@ from .vocabulary import (
 MOST_TOLD = 12
 """So many columns that are left aside are named at most."""
 
+
+AMOUNT_COLUMNS = ("supply", "demand", "low", "capacity")
+
+SHORT = ("a", "de")
+"""Words for the ends of arcs that may as well be the name of a node."""
 
 MOST_LETTERS = 30
 """A cell of more letters is a sentence, and not one word of a list."""
@@ -152,9 +170,10 @@ def find_columns(
             continue  # It may have the names of the nodes.
         _check_unknown(sheet, place, [what for what in kinds if what not in unused], matches)
         aside.append(place)
+    _check_periods(sheet, unknown)
     blank = sheet.blank_columns(unknown)
     aside = [place for place in aside if place not in blank]
-    compare_units({what: (unit, sheet, sheet.header[found.places[what]]) for what, unit in found.units.items()})
+    compare_units([(what, unit, sheet, sheet.header[found.places[what]]) for what, unit in found.units.items()])
     if aside:
         _tell_aside(sheet, aside)
     return found
@@ -292,8 +311,7 @@ def match_of(header: str, kinds: Sequence[str]) -> Optional[Match]:
     ('cost', None)
     """
     for words, stands_in in ((_WORDS, False), (_STAND_INS, True)):
-        name = folded(header)
-        for what in words.get(name, ()):
+        for what in words.get(folded(header), ()):
             if what in kinds:
                 return Match(what, None, stands_in)
         for base, behind in _parted(header):
@@ -303,7 +321,41 @@ def match_of(header: str, kinds: Sequence[str]) -> Optional[Match]:
                     unit = unit.of_cost(is_named=not stands_in) if what == "cost" else unit.of_amount()
                 if unit is not None:
                     return Match(what, unit, stands_in)
+    return _amount_of(header, kinds)
+
+
+def _amount_of(header: str, kinds: Sequence[str]) -> Optional[Match]:
+    """What the name of a column of amounts says that has a word for amounts, or their unit, beside one that is known, as
+    `max. quantity`, `Supply qty (t)` or `units available`."""
+    for base, behind in [(header, ""), *_parted(header)]:
+        tokens = folded(base).split()
+        rest = " ".join(token for token in tokens if token not in QUANTITIES)
+        unit = unit_of(behind)
+        if len(tokens) > 1 and unit_of(tokens[0]) is not None and is_amount(tokens[0]) and not behind:
+            rest, unit = " ".join(tokens[1:]), unit_of(tokens[0])
+        if not rest or rest == folded(header) or behind and unit is None:
+            continue
+        for what in _WORDS.get(rest, ()):
+            if what in kinds and what in AMOUNT_COLUMNS and (unit is None or unit.of_amount() is not None):
+                return Match(what, unit)
     return None
+
+
+def words_for(*things: str) -> Set[str]:
+    """The words for columns of these things, without those that are short or have another meaning too."""
+    return {folded(word) for what in things for word in COLUMNS[what]} - {"source", "end", *SHORT}
+
+
+def says(sheet: Sheet, what: str) -> bool:
+    """Whether the name of a column says this."""
+    return any(match_of(header, [what]) for header in sheet.header)
+
+
+def is_of_list(header: str) -> bool:
+    """Whether the name of a column is one of those that a list of arcs has; by itself `A` is none."""
+    name = folded(header)
+    is_known = name in _OF_ASSIGNMENTS or name in _BY_TRADE or match_of(header, ARC_COLUMNS) is not None
+    return is_known and name not in SHORT
 
 
 def _parted(header: str) -> List[Tuple[str, str]]:
@@ -388,6 +440,8 @@ def _check_unknown(sheet: Sheet, place: int, kinds: Sequence[str], taken: Collec
     # Where the ends of an arc and the name of a node are known, other columns may have words like theirs.
     open_kinds = [what for what in kinds if what not in LABELS and not (what in taken and what in ENDS)]
     why = _why_it_matters(sheet, place, (kinds, open_kinds))
+    if why and "supply" in kinds and {"supply", "demand"}.isdisjoint(taken) and match_of(header, ["capacity"]):
+        why += f"; `--columns supply={quoted(header)}` says that it is the supply"
     if not why and "cost" in kinds and _is_money(header):
         none = "" if "cost" in taken else ", which no other column is"
         why = f"it may be the cost of a unit{none}; `--columns cost={quoted(header)}` says so"
@@ -398,6 +452,31 @@ def _check_unknown(sheet: Sheet, place: int, kinds: Sequence[str], taken: Collec
             f"{sheet.name}: the column {header!r} is not understood: {why}; `--columns aside={quoted(header)}` leaves "
             "it aside"
         )
+
+
+_PERIOD = re.compile(r"(q|w|kw|t|s|trim|sem|week|woche|day|tag|month|monat|period|periode)?\s*\d{1,4}(\s\d{1,4}){0,2}")
+
+
+def _is_period(header: str) -> bool:
+    """Whether the name of a column is that of a time, as `Jan`, `March 2026`, `Q1`, `KW 12` or `2026-01`."""
+    name = folded(header)
+    rest = [token for token in name.split() if token not in PERIODS]
+    return bool(name) and (
+        all(map(str.isdigit, rest)) if len(rest) < len(name.split()) else bool(_PERIOD.fullmatch(name))
+    )
+
+
+def _check_periods(sheet: Sheet, unknown: Sequence[int]) -> None:
+    """Raises TableFault where numbers stand in two columns or more that are called like times."""
+    places = [place for place in unknown if _is_period(sheet.header[place]) and _may_count(_cells_of(sheet, place))]
+    if len(places) < 2:
+        return
+    names = [sheet.header[place] for place in places]
+    aside = " ".join(f"--columns aside={quoted(name)}" for name in names[:2]) + " .." * (len(names) > 2)
+    raise TableFault(
+        f"{sheet.name}: the columns {some(names)} look like times, with numbers for each: all rows are one problem; give "
+        f"those of one plan alone; `{aside}` leaves them aside"
+    )
 
 
 def _check_words(sheet: Sheet, place: int, kinds: Sequence[str]) -> None:
@@ -451,12 +530,17 @@ def _why_it_matters(sheet: Sheet, place: int, kinds: Tuple[Sequence[str], Sequen
         return "what enters an arc leaves it whole, nothing is lost or gained on the way"
     if "cost" in of_table and tokens & FIXED:
         return "what is paid once, however much flows, can't be said: a cost is that of a unit"
+    if "low" in of_table and tokens & MUSTS:
+        return "what has to be used has a lower bound: write it under `low`"
+    of_numbers = _why_numbers_matter(sheet, place, of_table)
+    if of_numbers:
+        return of_numbers
     if "cost" in open_kinds and _is_rent(header):
         return (
             "what is paid for a time, however much flows, can't be said; if it is what a unit costs, "
             f"`--columns cost={quoted(header)}` says so"
         )
-    if tokens & SWITCHES and not _telling(name, open_kinds):
+    if tokens & SWITCHES and not telling(name, open_kinds):
         return "each row counts; give the table without those that do not"
     # Where no column has the names of nodes, that is the first thing to be told.
     is_named = not (set(ENDS) & set(open_kinds)) or not sheet.header[0]
@@ -472,11 +556,39 @@ def _why_it_matters(sheet: Sheet, place: int, kinds: Tuple[Sequence[str], Sequen
         return "a cost that rises with the amount takes an arc for each range, with its room as capacity; none can fall"
     if "cost" in of_table and tokens & EARNINGS:
         return "what a unit earns is a cost below 0: take it off the cost"
-    near = None if tokens & PARTS else _near(name, header, open_kinds)
+    near = None if tokens & (PARTS | NO_SLIPS) else _near(name, header, open_kinds)
     if near:
         return f"did you mean {near[0]!r}? `--columns {near[1]}={quoted(header)}` says so"
-    what = _telling(name, open_kinds)
+    what = telling(name, open_kinds)
     return f"it looks like {called(what)}; `--columns {what}={quoted(header)}` says so" if what else ""
+
+
+def _why_numbers_matter(sheet: Sheet, place: int, kinds: Sequence[str]) -> str:
+    """Why a column may matter that has numbers other than 1 alone; '' where nothing speaks for it."""
+    header = sheet.header[place]
+    tokens = {*folded(header).split(), folded(header).replace(" ", "")}
+    words = LOTS | REPEATS | CHANCES | SHARES | EXTRAS
+    if (
+        tokens & LABELLING
+        or not tokens & words
+        and "%" not in header
+        or not _are_numbers(_cells_of(sheet, place) - {"1"})
+    ):
+        return ""
+    if tokens & LOTS:
+        return "amounts go in any steps, and from nothing on: that they go in lots, or not at all, can't be said"
+    if tokens & CHANCES:
+        return "each row counts whole: that it is there with some probability can't be said"
+    if tokens & SHARES or "%" in header:
+        return "a part of something else can't be said: work it into the amounts and costs"
+    if "capacity" in kinds and tokens & REPEATS:
+        return "it may say how many times a capacity is there: work it into the capacity"
+    if "cost" in kinds and tokens & EXTRAS:
+        return (
+            "it may be a part of what a unit costs: add it to the cost; "
+            f"`--columns cost={quoted(header)}` says that it is all of it"
+        )
+    return ""
 
 
 def _of_other_table(tokens: Collection[str], header: str, kinds: Sequence[str]) -> str:
@@ -485,6 +597,8 @@ def _of_other_table(tokens: Collection[str], header: str, kinds: Sequence[str]) 
     if "from" in kinds and things & {"supply", "demand"}:
         return "supplies and demands stand in the table of nodes, with a row for each node"
     if "node" in kinds:
+        if not THROUGHPUT.isdisjoint(tokens):
+            things.add("capacity")
         if not (COSTLY | EARNINGS).isdisjoint(tokens) or _is_money(header):
             things.add("cost")
         for what in ("low", "capacity", "cost"):
@@ -493,7 +607,7 @@ def _of_other_table(tokens: Collection[str], header: str, kinds: Sequence[str]) 
     return ""
 
 
-def _telling(name: str, kinds: Sequence[str]) -> Optional[str]:
+def telling(name: str, kinds: Sequence[str]) -> Optional[str]:
     """The thing that a name of several words, or a long word, may be, by a known word in it."""
     for word, things in _TELLING.items():
         if _has_word(name, word, 6):
@@ -513,6 +627,11 @@ def _may_count(cells: Collection[str]) -> bool:
     return bool(cells) and all(
         re.match(r"\s*[+-]?[.,]?\d", cell) or cell.strip().lower() in YES_OR_NO | {"x"} for cell in cells
     )
+
+
+def _are_numbers(cells: Collection[str]) -> bool:
+    """Whether there are cells, and each has a number."""
+    return bool(cells) and all(re.match(r"\s*[+-]?[.,]?\d", cell) for cell in cells)
 
 
 def _may_be_capacity(sheet: Sheet, place: int) -> bool:
@@ -564,18 +683,18 @@ def distance(one: str, other: str) -> int:
     return row[-1]
 
 
-def compare_units(units: Mapping[str, Tuple[Unit, Sheet, str]], *, are_all: bool = False) -> None:
+def compare_units(units: Sequence[Tuple[str, Unit, Sheet, str]], *, are_all: bool = False) -> None:
     """Raises TableFault where amounts have different units, or costs are for another unit than that of the amounts; where
-    `are_all` the units there are, also where costs are for many units and the amounts have no unit."""
-    amounts = [(what, *units[what]) for what in ("supply", "demand", "low", "capacity") if what in units]
+    `are_all` the units there are, also where costs are for many units and the amounts have no unit. Each unit stands
+    with what has it, and where."""
+    amounts = [each for what in AMOUNT_COLUMNS for each in units if each[0] == what]
     for (_, unit, sheet, header), (_, other, their_sheet, theirs) in zip(amounts, amounts[1:]):
         if not unit.agrees(other):
             raise TableFault(
                 f"{sheet.name}, column {header!r}, is {unit.told}, and {their_sheet.name}, column {theirs!r}, "
                 f"{other.told}: bring all amounts to one unit"
             )
-    if "cost" in units:
-        unit, sheet, header = units["cost"]
+    for _, unit, sheet, header in (each for each in units if each[0] == "cost"):
         if are_all and not amounts and unit.is_of_many:
             raise TableFault(
                 f"{sheet.name}, column {header!r}, is {unit.told}, and no amount has a unit: bring costs and amounts to "

@@ -3,7 +3,7 @@ words."""
 
 from __future__ import annotations
 
-from typing import Dict, Tuple, Union
+from typing import Dict, Sequence, Tuple, Union
 
 Text = Union[str, bytes]
 """A text; bytes that are no UTF-8 are surrogates in a str."""
@@ -38,6 +38,11 @@ def counted(count: int, what: str) -> str:
     ('1 arc', '1,200 arcs')
     """
     return f"{count:,} {what}{'' if count == 1 else 's'}"
+
+
+def some(names: Sequence[str]) -> str:
+    """The first of some names, and how many more there are."""
+    return ", ".join(names[:5]) + (f" and {len(names) - 5} more" if len(names) > 5 else "")
 
 
 LONGEST_LINE = 1024

@@ -4,12 +4,12 @@ from __future__ import annotations
 
 import re
 import unicodedata
-from typing import Dict, FrozenSet, NamedTuple, Optional
+from typing import Dict, FrozenSet, NamedTuple, Optional, Tuple
 
-_MONEY = "eur euro euros € usd dollar dollars $ us$ gbp pound pounds £ chf franken francs jpy yen ¥ pln czk sek nok dkk"
+_MONEY = "eur euro euros € usd dollar dollars $ us$ gbp pound pounds £ chf franken francs jpy yen ¥ pln czk sek nok dkk brl r$"
 _CENTS = "ct cent cents c"
 _SAME: Dict[str, str] = {
-    "t": "t to ton tons tonne tonnes tonnen tonelada toneladas tn",
+    "t": "t to ton tons tonne tonnes tonnen tonelada toneladas tonnellata tonnellate tn",
     "kg": "kg kilo kilos kilogram kilograms kilogramm",
     "g": "g gram grams gramm",
     "lb": "lb lbs pound pounds",
@@ -17,11 +17,11 @@ _SAME: Dict[str, str] = {
     "hl": "hl",
     "m3": "m3 m³ cbm",
     "unit": "unit units piece pieces pc pcs stk stück stueck stuck einheit einheiten ea each unite unites unidad "
-    "unidades ud uds pieza piezas",
+    "unidades ud uds pieza piezas unita pezzo pezzi unidade peca pecas stuk stuks eenheid eenheden",
     "pallet": "pallet pallets palette palettes paletten pal pale pales",
     "container": "container containers contenedor contenedores conteneur conteneurs",
     "teu": "teu evp",
-    "box": "box boxes kiste kisten caja cajas caisse caisses carton cartons",
+    "box": "box boxes kiste kisten caja cajas caisse caisses carton cartons scatola scatole caixa caixas doos dozen",
     "truck": "truck trucks lkw camion camions camiones",
     "mw": "mw",
     "mwh": "mwh",
@@ -33,14 +33,14 @@ _SAME: Dict[str, str] = {
 }
 _SPANS: Dict[str, str] = {
     "s": "s sec second seconds",
-    "hour": "h hr hour hours stunde stunden std heure heures hora horas",
-    "day": "d day days daily tag tage jour jours dia dias",
-    "week": "w week weeks weekly woche wochen semaine semaines semana semanas",
-    "month": "month months monthly monat monate mois mes meses",
-    "year": "y a year years yearly jahr jahre an ans ano anos",
+    "hour": "h hr hour hours stunde stunden std heure heures hora horas ora ore uur",
+    "day": "d day days daily tag tage jour jours dia dias giorno giorni dag dagen",
+    "week": "w week weeks weekly woche wochen semaine semaines semana semanas settimana settimane weken",
+    "month": "month months monthly monat monate mois mes meses mese mesi maand maanden",
+    "year": "y a year years yearly jahr jahre an ans ano anos anno anni jaar jaren",
 }
 _NUMBERS = frozenset("1 10 100 1000 10000 1000000 k thousand tausend mille mil mio million".split())
-_BETWEEN = frozenset("per pro je par por in en".split())
+_BETWEEN = frozenset("per pro je par por in en al alla ao".split())
 
 
 def _table(words: Dict[str, str]) -> Dict[str, str]:
@@ -171,6 +171,27 @@ def unit_of(text: str) -> Optional[Unit]:
         return None
     text = re.sub(r"^(in|en)\s+", "", " ".join(text.split()).strip(" _-.:"), flags=re.IGNORECASE)
     return Unit(text, scale + base, frozenset(per), time)
+
+
+_DIGITS = r"[.,]?\d(?:[\d.,'\u2019\s]*\d)?"
+_BEHIND = re.compile(rf"([+\-\u2212]?{_DIGITS})\s*([^\W\d_].*|[€$£¥/].*)")
+_BEFORE = re.compile(rf"([+\-\u2212]?)\s*([^\W\d_]*[€$£¥]|[^\W\d_]+)\s*([+\-\u2212]?{_DIGITS})")
+
+
+def number_and_unit(cell: str) -> Optional[Tuple[str, str]]:
+    """The number in a cell, and the unit that stands behind it, or before it where it is one of money; None where there is
+    no unit that is known.
+
+    >>> number_and_unit("-€ 2.50"), number_and_unit("1 250,5 t"), number_and_unit("5 h"), number_and_unit("t 5")
+    (('-2.50', '€'), ('1 250,5', 't'), None, None)
+    """
+    behind, before = _BEHIND.fullmatch(cell.strip()), _BEFORE.fullmatch(cell.strip())
+    if behind and unit_of(behind[2]) is not None:
+        return behind[1], behind[2]
+    unit = unit_of(before[2]) if before else None
+    if before and unit is not None and unit.is_money and not (before[1] and before[3][0] in "+-\u2212"):
+        return before[1] + before[3], before[2]
+    return None
 
 
 def is_amount(text: str) -> bool:

@@ -357,7 +357,7 @@ class Problem:
     @classmethod
     def from_frames(cls, nodes: Any, arcs: Any, **options: Any) -> Problem:
         """The problem of two frames of pandas, or of one alone (`nodes` None): `tables.read_tables` says which columns
-        are taken, and what `options` there are.
+        are taken, and what `options` there are. `nodes` may be a list of frames.
 
         Raises TableFault where a row or a column can't be read, TypeError for what is no frame.
         """

@@ -10,6 +10,7 @@ from typing import Dict, Iterable, List, Mapping, Optional, Sequence, Tuple, Uni
 from .cells import (
     LACKING,
     MISSING,
+    NO_LIMIT,
     CellFault,
     Coordinates,
     Numbers,
@@ -18,18 +19,22 @@ from .cells import (
     Undecided,
     bare,
     decimal_sign,
+    is_blank,
+    is_empty,
     is_truth,
     name_of,
     not_plain,
     shown,
 )
-from .columns import Found, called, match_of
-from .measures import unit_of
+from .columns import Found, called, folded, match_of
+from .measures import number_and_unit, unit_of
 from .problem import ZERO, Number, exact, plain
 from .sheets import Sheet
-from .vocabulary import COLUMNS, DITTO
+from .vocabulary import COLUMNS, DITTO, SUMS
 
 PLACES = ("x", "y")
+
+ROW_OF_SUMS = "this looks like a row of sums: give the table without it"
 
 OPTIONAL = ("supply", "demand", "low", "name")
 """The properties that a feature of a map may lack."""
@@ -103,6 +108,8 @@ class Table:
     def __init__(self, sheet: Sheet, found: Found, reading: Reading):
         self.sheet, self.found, self.reading = sheet, found, reading
         self._check_short_rows()
+        for what in self._with_numbers():
+            self._take_units(what)
         self._numbers: Optional[Numbers] = None
         self._names = _Names()
         # Where columns are parted by commas, numbers have a decimal point unless they show something else.
@@ -127,15 +134,7 @@ class Table:
         of_use = set(self.found.places.values())
         if self.reading.default_cost is not None:
             of_use.discard(self.found.places.get("cost", -1))
-        for row, places in sheet.missing.items():
-            if of_use.isdisjoint(places):
-                continue
-            width = len(sheet.header)
-            raise TableFault(
-                f"{sheet.name}, {sheet.place(row)}: {width - len(places)} "
-                f"field{' stands' if width - len(places) == 1 else 's stand'} under {width} columns; an empty field "
-                "needs its separator too"
-            )
+        sheet.check_short(of_use)
 
     def _check_properties(self) -> None:
         """Raises TableFault where a feature of a map has not all the properties that count."""
@@ -159,10 +158,20 @@ class Table:
             raise no_column(self.sheet, what, self.found)
         names = self.names_of(self.found.places[what])
         if "" in names:
-            raise self.fault(names.index(""), what, "a name was expected")
+            row = names.index("")
+            raise self.fault(row, what, self._why_nameless(row, what))
         for mark in DITTO.intersection(names):
             raise self.fault(names.index(mark), what, "this looks like `as above`: write the name itself")
         return names
+
+    def _why_nameless(self, row: int, what: str) -> str:
+        """What to do about a row that has no name where one was expected."""
+        cells = [column[row] for column in self.sheet.columns if not is_blank(column[row])]
+        if any(isinstance(cell, str) and folded(cell) in SUMS for cell in cells):
+            return ROW_OF_SUMS
+        if len(cells) == 1:
+            return "a name was expected; if this row is a remark, take it out"
+        return "a name was expected" + ("; if it is that of the row above, write it here too" if row else "")
 
     def names_of(self, place: int) -> List[str]:
         """The names in a column by its place; '' where a cell is empty."""
@@ -227,8 +236,43 @@ class Table:
                     expected = (
                         "a number was expected: leave the cell empty where there is no limit, and write 0 where it is 0"
                     )
+                if (
+                    what == "cost"
+                    and isinstance(cell, str)
+                    and (cell.strip().lower() in MISSING or cell.strip() in ("x", "X"))
+                ):
+                    expected = (
+                        "a number was expected: write one in its place, or take the row out if there is no such arc"
+                    )
                 raise self.fault(row, what, expected) from None
         raise AssertionError("a cell was refused, and now none is")
+
+    def _take_units(self, what: str) -> None:
+        """Parts the numbers of a column from their units, where all of them have one of the kind that belongs there."""
+        place = self.found.places[what]
+        parted: Dict[str, Tuple[str, str]] = {}
+        for cell in self.sheet.columns[place]:
+            if is_empty(cell) or isinstance(cell, str) and (cell in parted or cell.strip().lower() in NO_LIMIT | {"0"}):
+                continue
+            found = number_and_unit(cell) if isinstance(cell, str) else None
+            unit = unit_of(found[1]) if found is not None else None
+            if (
+                found is None
+                or unit is None
+                or (unit.of_cost(is_named=False) if what == "cost" else unit.of_amount()) is None
+            ):
+                return
+            parted[cell] = found
+        if not parted:
+            return
+        units = self.sheet.units.setdefault(place, {})
+        for row, cell in enumerate(self.sheet.columns[place]):
+            if cell in parted:
+                units.setdefault(parted[cell][1], row)
+        self.sheet.columns[place] = [parted[cell][0] if cell in parted else cell for cell in self.sheet.columns[place]]
+        self.sheet.notes.append(
+            f"{self.sheet.name}: by its cells the column {self.sheet.header[place]!r} is in {next(iter(units))}"
+        )
 
     def _check_shown_units(self, what: str) -> None:
         """Raises TableFault where a workbook shows the numbers of a column in several units, or in another one than the

@@ -3,6 +3,7 @@
 from __future__ import annotations
 
 import csv
+import datetime
 import re
 from dataclasses import dataclass, field
 from pathlib import Path
@@ -52,9 +53,8 @@ class Sheet:
     def fault(self, row: int, column: int, expected: str) -> TableFault:
         """What is wrong with a cell."""
         cell = shown(self.columns[column][row])
-        return TableFault(
-            f"{self.name}, {self.place(row)}, column {self.header[column]!r}: {cell} stands there; {expected}"
-        )
+        title = repr(self.header[column]) if self.header[column] else column + 1
+        return TableFault(f"{self.name}, {self.place(row)}, column {title}: {cell} stands there; {expected}")
 
     def blank_columns(self, places: Collection[int]) -> Set[int]:
         """Those of the columns at these places in which nothing stands."""
@@ -62,6 +62,17 @@ class Sheet:
         if parted:
             return parted[0].lines.blank(places)
         return {place for place in places if all(map(is_blank, self.columns[place]))}
+
+    def check_short(self, of_use: Collection[int], rows: Optional[Collection[int]] = None) -> None:
+        """Raises TableFault where a row, of these if they are given, has not all the cells of the columns of use."""
+        for row, places in self.missing.items():
+            if places.isdisjoint(of_use) or rows is not None and row not in rows:
+                continue
+            count = len(self.header) - len(places)
+            raise TableFault(
+                f"{self.name}, {self.place(row)}: {count} field{' stands' if count == 1 else 's stand'} under "
+                f"{len(self.header)} columns; an empty field needs its separator too"
+            )
 
     def its_columns(self) -> str:
         """The names of the columns, for messages."""
@@ -97,12 +108,18 @@ def _sheet_under(name: str, names: Sequence[Any], lines: Sequence[int], *, word:
                 f"{name}, {word} {lines[0]}: {shown(cell)} stands there; the name of a column was expected, and this is "
                 f"{wrong}"
             )
-    header = ["" if is_empty(cell) else str(cell).strip() for cell in names]
+    header = ["" if is_empty(cell) else _title(cell) for cell in names]
     while header and not header[-1]:
         header.pop()
     if len(lines) == 1:
         raise TableFault(f"{name}: the names of the columns stand there, and no row below them")
     return Sheet(name, header, [], lines[1:], word, delimiter)
+
+
+def _title(cell: Any) -> str:
+    """The name of a column in a cell; a day, as workbooks have it, without its time."""
+    is_day = isinstance(cell, datetime.datetime) and cell.time() == datetime.time()
+    return str(cell.date() if is_day else cell).strip()
 
 
 def _take_index(sheet: Sheet) -> None:
@@ -380,14 +397,17 @@ def sheet_of_frame(frame: Any, name: str) -> Sheet:
     columns: List[Sequence[Any]] = [_cells_of(frame.iloc[:, place]) for place in range(len(header))]
     lines = frame.index.tolist()
     levels, index_name = getattr(frame.index, "nlevels", 1), frame.index.name
+    added = 0
     for level, title in enumerate(frame.index.names) if levels > 1 or index_name is not None else ():
         labels = [line[level] for line in lines] if levels > 1 else lines
         called = "" if title is None else str(title).strip()
         # An index may repeat a column, as `set_index("name", drop=False)` makes it.
         twins = [column for there, column in zip(header, columns) if there == called]
         if list(map(str, labels)) not in [list(map(str, twin)) for twin in twins]:
-            header.append(called)
-            columns.append(labels)
+            # They come first, as pandas writes them.
+            header.insert(added, called)
+            columns.insert(added, labels)
+            added += 1
     has_names = levels == 1 and index_name is None and any(isinstance(line, str) for line in lines)
     # A row is blank where its name, which may stand in the index, is empty too.
     cells = [*columns, lines] if has_names else columns

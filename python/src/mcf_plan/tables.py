@@ -12,17 +12,18 @@ import unicodedata
 from collections import Counter
 from decimal import Decimal
 from io import StringIO
-from itertools import chain
+from itertools import chain, permutations
 from pathlib import Path
-from typing import TYPE_CHECKING, Any, Collection, Dict, Iterable, List, Mapping, Optional, Sequence, Set, Tuple, Union
+from typing import TYPE_CHECKING, Any, Collection, Dict, Iterable, List, Mapping, Optional, Sequence, Tuple, Union
 
-from .cells import TableFault, is_empty, limit_fault, name_of
-from .columns import called, compare_units, find_columns, folded, quoted
-from .formats import counted
-from .measures import unit_of
+from .cells import LACKING, TableFault, is_empty, limit_fault, name_of
+from .columns import called, compare_units, find_columns, folded, quoted, words_for
+from .formats import counted, some
+from .matrices import Listed, as_list
+from .measures import Unit, unit_of
 from .outputs import write_text
 from .problem import ONE, WIDE, ZERO, Arc, Number, Problem, exact, plain
-from .reading import Reading, Table, no_column
+from .reading import ROW_OF_SUMS, Reading, Table, no_column
 from .rounding import round_problem
 from .sheets import WORKBOOKS, Sheet, is_table, part_sheet
 from .sources import Source, find_sheets, sheets_read
@@ -42,13 +43,14 @@ TIME = re.compile(
 PERIOD = re.compile(r"\s*[A-Za-z]{0,2}(\d{1,9})\s*", re.ASCII)
 """The number of a period, as 3, 2026 or Q1."""
 
-AMOUNTS_AND_COSTS = ("supply", "demand", "low", "capacity", "cost")
+SUPPLIES = words_for("supply", "demand")
+"""Words for supplies and demands."""
 
-ROW_OF_SUMS = "this looks like a row of sums: give the table without it"
+AMOUNTS_AND_COSTS = ("supply", "demand", "low", "capacity", "cost")
 
 
 def read_tables(
-    nodes: Optional[Source],
+    nodes: Union[None, Source, Sequence[Source]],
     arcs: Source,
     *,
     kind: str = "min",
@@ -61,11 +63,13 @@ def read_tables(
     decimals: Optional[int] = None,
     encoding: Optional[str] = None,
 ) -> Problem:
-    """The problem of two tables, or of one alone: a workbook or a map that has both, or the arcs.
+    """The problem of two tables, or of one alone: a workbook or a map that has both, or the arcs. Of nodes there may be
+    several tables, as one of depots and one of shops.
 
     Nodes: columns `name` (or node, id, place, ..) and `supply`, or `demand`, or both. Arcs: `from`, `to`, `cost`, and
     where there are such `low`, `capacity`, `name`; a capacity that is empty or `inf` is no limit. Columns `x` and `y`
-    of the nodes are places on a map. `COLUMNS` has all names of columns. In 'asn' a node without a supply is on the
+    of the nodes are places on a map. The table of arcs may be a matrix of costs, with a row for each node that arcs leave
+    and a column for each that they lead to. `COLUMNS` has all names of columns. In 'asn' a node without a supply is on the
     source side where an arc leaves it, else on the sink side. In 'max' `source` and `sink` name these.
 
     `columns` names columns that have other names, `{"capacity": "Kapa", "aside": ["old cost"]}`; `decimal` is the
@@ -77,10 +81,11 @@ def read_tables(
     # As the cells of tables, so that the node 1 of a frame is found, and one whose letters are made of other characters.
     ends_of_flow = [None if name is None else name_of(name) for name in (source, sink)]
     problem = Problem(kind, balance=balance, source=ends_of_flow[0], sink=ends_of_flow[1])
-    node_sheet, arc_sheet = find_sheets(nodes, arcs, reading.encoding)
-    _check_order(node_sheet, arc_sheet, reading)
-    _check_shape(node_sheet, arc_sheet, reading)
-    _check_chosen(reading, node_sheet, arc_sheet)
+    of_nodes: List[Source] = list(nodes) if isinstance(nodes, (list, tuple)) else [] if nodes is None else [nodes]
+    sheets, arc_sheet = find_sheets(of_nodes, arcs, reading.encoding)
+    _check_chosen(reading, sheets, arc_sheet)
+    node_sheets, arc_sheet = as_list(arc_sheet, sheets, kind, reading)
+    _check_order(node_sheets, arc_sheet, reading)
     unused = ("cost",) if kind == "max" else ()
     arc_columns = find_columns(
         arc_sheet, ARC_COLUMNS, reading.columns, unused=unused, is_assignment=problem.kind == "asn"
@@ -88,76 +93,94 @@ def read_tables(
     arc_table = Table(arc_sheet, arc_columns, reading)
     tails, heads = arc_table.names("from"), arc_table.names("to")
     ends = dict.fromkeys(chain.from_iterable(zip(tails, heads)))
-    node_table = None
-    if node_sheet is not None:
-        is_plan = arc_table.found.is_plan
-        found = find_columns(node_sheet, NODE_COLUMNS, reading.columns, beside_plan=is_plan)
-        node_table = Table(node_sheet, found, reading)
-        _find_names(node_table, ends)
-        node_table.look_at(arc_table)
-        arc_table.look_at(node_table)
-        _read_nodes(problem, node_table, ends)
-        for name in ends:
-            if name not in problem.nodes and folded(name) in SUMS and name in tails:
-                raise arc_table.fault(tails.index(name), "from", ROW_OF_SUMS)
+    tables = [_node_table(sheet, node_sheets, ends, arc_table) for sheet in node_sheets]
+    for table, other in permutations((*tables, arc_table), 2):
+        table.look_at(other)
+    others: Dict[str, str] = {}
+    for table in tables:
+        _read_nodes(problem, table, ends, others)
+    for name in ends if tables else ():
+        if name not in problem.nodes and folded(name) in SUMS and name in tails:
+            raise arc_table.fault(tails.index(name), "from", ROW_OF_SUMS)
     _check_times(problem, arc_table, tails, heads)
     _check_periods(arc_table, tails, heads)
-    compare_units({**({} if node_table is None else _units(node_table)), **_units(arc_table)}, are_all=True)
-    _add_ends(problem, ends, node_sheet, arc_sheet)
+    compare_units([unit for table in (*tables, arc_table) for unit in _units(table)], are_all=True)
+    if _lead_back(problem, arc_sheet, tails, heads):
+        tails, heads = heads, tails
+    _add_ends(problem, ends, node_sheets, arc_sheet)
     _read_arcs(problem, arc_table, tails, heads)
-    if node_sheet is not None:
-        _tell_unplaced(problem, node_sheet)
-    for sheet in (node_sheet, arc_sheet):
-        problem.notes += [] if sheet is None else sheet.notes
-    _check_sense(problem, node_table, arc_table, ends)
+    _tell_unplaced(problem, node_sheets)
+    for sheet in (*node_sheets, arc_sheet):
+        problem.notes += sheet.notes
+    _check_sense(problem, node_sheets, arc_sheet, ends)
     return problem if decimals is None else round_problem(problem, decimals)
+
+
+def _node_table(sheet: Sheet, sheets: Sequence[Sheet], ends: Iterable[str], arcs: Table) -> Table:
+    """A table of nodes, which is one of these sheets."""
+    found = find_columns(sheet, NODE_COLUMNS, _chosen_of(sheet, sheets, arcs.reading), beside_plan=arcs.found.is_plan)
+    table = Table(sheet, found, arcs.reading)
+    _find_names(table, ends, is_alone=len(sheets) == 1)
+    return table
 
 
 # ---------------------------------------------------------------- which columns
 
 
-def _words(*things: str) -> Set[str]:
-    """The words for columns of these things, without those that are short or have another meaning too."""
-    return {folded(word) for what in things for word in COLUMNS[what]} - {"source", "end", "a", "de"}
+def _chosen_of(sheet: Sheet, sheets: Sequence[Sheet], reading: Reading) -> Dict[str, List[str]]:
+    """What was said of columns, without those that other tables of nodes have, and this one has not."""
+
+    def has(each: Sheet, name: str) -> bool:
+        return folded(name) in map(folded, each.header)
+
+    return {
+        what: [name for name in names if has(sheet, name) or not any(has(other, name) for other in sheets)]
+        for what, names in reading.columns.items()
+    }
 
 
-def _check_order(nodes: Optional[Sheet], arcs: Sheet, reading: Reading) -> None:
-    """Raises TableFault where the two tables stand the wrong way round, or that of nodes is there alone."""
-    ends, its_columns = _words("from", "to"), set(map(folded, arcs.header))
-    if nodes is None:
-        is_named = "from" in reading.columns or "to" in reading.columns
-        if _words("supply", "demand") & its_columns and not ends & its_columns and not is_named:
-            raise TableFault(f"{arcs.name} looks like the table of nodes: give the table of arcs behind it")
-    elif len(ends & set(map(folded, nodes.header))) >= 2 and not ends & its_columns:
-        raise TableFault(
-            f"{nodes.name} looks like the table of arcs: the table of nodes comes first, then that of arcs"
-        )
+def _check_order(nodes: Sequence[Sheet], arcs: Sheet, reading: Reading) -> None:
+    """Raises TableFault where the tables stand in another order than that of nodes before arcs, or those of nodes are
+    there alone."""
+    ends, its_columns = words_for("from", "to"), set(map(folded, arcs.header))
+    has_ends = bool(ends & its_columns) or "from" in reading.columns or "to" in reading.columns
+    for sheet in nodes:
+        if len(ends & set(map(folded, sheet.header))) < 2:
+            continue
+        if not ends & its_columns:
+            raise TableFault(
+                f"{sheet.name} looks like the table of arcs: the table of nodes comes first, then that of arcs"
+            )
+        if len(nodes) > 1 and not SUPPLIES & set(map(folded, sheet.header)):
+            raise TableFault(
+                f"{sheet.name} looks like a table of arcs, and the last one alone has arcs: put all in one"
+            )
+    if SUPPLIES & its_columns and not has_ends and not words_for("cost") & its_columns:
+        advice = "that of arcs comes last" if nodes else "give the table of arcs behind it"
+        raise TableFault(f"{arcs.name} looks like the table of nodes: {advice}")
 
 
-def _check_shape(nodes: Optional[Sheet], arcs: Sheet, reading: Reading) -> None:
-    """Raises TableFault where the table of arcs is a matrix, with a column for each node that an arc leads to."""
-    header = [name for name in arcs.header[1:] if name]
-    its_columns = set(map(folded, arcs.header))
-    has_ends = all(_words(what) & its_columns or what in reading.columns for what in ("from", "to"))
-    if len(header) < 2 or has_ends:
-        return
-    names = set(map(str, arcs.columns[0]))
-    for column in () if nodes is None else nodes.columns:
-        names.update(map(str, column))
-    if 2 * sum(name in names for name in header) > len(header):
-        raise TableFault(
-            f"{arcs.name} looks like a matrix, with columns for the nodes {_some(header)}: give each arc a row of its "
-            "own, under the columns from, to, capacity and cost"
-        )
+def _lead_back(problem: Problem, sheet: Sheet, tails: Sequence[str], heads: Sequence[str]) -> bool:
+    """Whether the arcs of a matrix lead from its columns to its rows, since the rows demand and the columns supply. Notes
+    it."""
+    if not isinstance(sheet, Listed) or not sheet.may_turn or problem.kind != "min":
+        return False
+    demanding, supplying = ([problem.nodes.get(name, ZERO) for name in set(ends)] for ends in (tails, heads))
+    if max(demanding) > 0 or min(supplying) < 0 or not any(demanding) or not any(supplying):
+        return False
+    sheet.notes.append(
+        f"{sheet.name}: its rows demand and its columns supply, so arcs lead from the latter to the former"
+    )
+    return True
 
 
-def _check_chosen(reading: Reading, nodes: Optional[Sheet], arcs: Sheet) -> None:
+def _check_chosen(reading: Reading, nodes: Sequence[Sheet], arcs: Sheet) -> None:
     """Raises TableFault where a column of nodes is named and there is no table of nodes, or a column is to be left aside
     that no table has."""
     for what in reading.columns:
-        if nodes is None and what in NODE_COLUMNS:
+        if not nodes and what in NODE_COLUMNS:
             raise TableFault(f"a column is named for {called(what)}, and there is no table of nodes")
-    there = {folded(header) for sheet in (nodes, arcs) if sheet is not None for header in sheet.header}
+    there = {folded(header) for sheet in (*nodes, arcs) for header in sheet.header}
     for name in reading.columns.get("aside", ()):
         if folded(name) not in there:
             raise TableFault(f"there is no column {name!r} to be left aside")
@@ -213,8 +236,9 @@ def _check_periods(table: Table, tails: Sequence[str], heads: Sequence[str]) -> 
             )
 
 
-def _find_names(table: Table, ends: Iterable[str]) -> None:
+def _find_names(table: Table, ends: Iterable[str], *, is_alone: bool) -> None:
     """Finds where the names of the nodes stand: of several columns, or of an index without a name, what the arcs use.
+    Where the table `is_alone` it has all that the arcs use, where it is one of several nothing else.
 
     Raises TableFault where none is one of them.
     """
@@ -223,7 +247,8 @@ def _find_names(table: Table, ends: Iterable[str]) -> None:
         return
     wanted = set(ends)
     if found.names:
-        used = [place for place in found.names if wanted <= set(table.names_of(place))]
+        names_at = {place: set(table.names_of(place)) for place in found.names}
+        used = [place for place, its in names_at.items() if (wanted <= its if is_alone else its <= wanted)]
         if len(used) != 1:
             names = " and ".join(repr(sheet.header[place]) for place in found.names)
             is_one = len({folded(sheet.header[place]) for place in found.names}) == 1
@@ -252,7 +277,7 @@ def _find_names(table: Table, ends: Iterable[str]) -> None:
     raise no_column(sheet, "node", found)
 
 
-def _units(table: Table) -> Dict[str, Any]:
+def _units(table: Table) -> List[Tuple[str, Unit, Sheet, str]]:
     """The units of the columns of a table, as `compare_units` takes them: those in their names, and those that a workbook
     shows with their numbers."""
     sheet, found = table.sheet, table.found
@@ -262,14 +287,14 @@ def _units(table: Table) -> Dict[str, Any]:
         if shown is not None and what not in units and what in AMOUNTS_AND_COSTS:
             unit = shown.of_cost(is_named=True) if what == "cost" else shown.of_amount()
             units.update({} if unit is None else {what: unit})
-    return {what: (unit, sheet, sheet.header[found.places[what]]) for what, unit in units.items()}
+    return [(what, unit, sheet, sheet.header[found.places[what]]) for what, unit in units.items()]
 
 
 # ---------------------------------------------------------------- rows
 
 
-def _read_nodes(problem: Problem, table: Table, ends: Collection[str]) -> None:
-    """Adds the nodes of the table of nodes."""
+def _read_nodes(problem: Problem, table: Table, ends: Collection[str], others: Dict[str, str]) -> None:
+    """Adds the nodes of a table of nodes. `others` are those of other tables, each with the table that has it."""
     sheet = table.sheet
     if not table.has("supply") and not table.has("demand") and problem.kind == "min":
         raise no_column(sheet, "supply", table.found)
@@ -278,8 +303,12 @@ def _read_nodes(problem: Problem, table: Table, ends: Collection[str]) -> None:
     for row, name in enumerate(names):
         if lines.setdefault(name, row) != row:
             raise table.fault(row, "node", f"it stands on {sheet.place(lines[name])} already")
+        if name in others:
+            raise table.fault(row, "node", f"it stands in {others[name]} already")
         if folded(name) in SUMS and name not in ends:
             raise table.fault(row, "node", ROW_OF_SUMS)
+        if folded(name) in SUPPLIES and name not in ends:
+            raise table.fault(row, "node", "this is no node, as it looks: give the table without this row")
     supplies, demands = table.numbers("supply"), table.numbers("demand")
     for row, name in enumerate(names):
         if name not in ends and (supplies[row] or demands[row]) and not SUMS.isdisjoint(folded(name).split()):
@@ -304,7 +333,23 @@ def _read_nodes(problem: Problem, table: Table, ends: Collection[str]) -> None:
         there, other = ("x", "y") if table.has("x") else ("y", "x")
         header = sheet.header[table.found.places[there]]
         sheet.notes.append(f"{sheet.name}: the column {header!r} is left aside, since none says {called(other)}")
+    others.update(dict.fromkeys(names, sheet.name))
+    if problem.kind == "min":
+        _tell_empty(table, names)
     table.tell_sign()
+
+
+def _tell_empty(table: Table, names: Sequence[str]) -> None:
+    """Notes nodes without a number of supply or demand: it may be missing. On a map places without one are usual."""
+    cells = [table.sheet.columns[table.found.places[what]] for what in ("supply", "demand") if table.has(what)]
+    empty = [
+        name for name, row in zip(names, zip(*cells)) if all(is_empty(cell) and cell is not LACKING for cell in row)
+    ]
+    if empty:
+        counts = "counts" if len(empty) == 1 else "count"
+        table.sheet.notes.append(
+            f"{table.sheet.name}: {counted(len(empty), 'node')} without a number {counts} as 0: {some(empty)}"
+        )
 
 
 def _says_demand(cells: Iterable[Any]) -> bool:
@@ -328,7 +373,7 @@ def _check_signs(table: Table, supplies: Sequence[Decimal]) -> None:
                 )
 
 
-def _add_ends(problem: Problem, ends: Iterable[str], nodes: Optional[Sheet], arcs: Sheet) -> None:
+def _add_ends(problem: Problem, ends: Iterable[str], nodes: Sequence[Sheet], arcs: Sheet) -> None:
     """Adds the nodes that the table of arcs alone has. Notes those that may be one, written in two ways."""
     alone = [end for end in ends if end not in problem.nodes]
     listed = {spelled: name for name in problem.nodes for spelled in _spelled(_alike(name))} if alone else {}
@@ -349,25 +394,25 @@ def _add_ends(problem: Problem, ends: Iterable[str], nodes: Optional[Sheet], arc
     if twins:
         more = f" (and {len(twins) - 1} more)" if len(twins) > 1 else ""
         arcs.notes.append(f"{arcs.name}: the nodes {twins[0][0]!r} and {twins[0][1]!r} count as two{more}")
-    if nodes is not None and problem.kind != "asn" and alone:
+    if nodes and problem.kind != "asn" and alone:
         stand, supply = ("stands", "supplies") if len(alone) == 1 else ("stand", "supply")
         count = counted(len(alone), "node")
-        nodes.notes.append(f"{count} {stand} in the table of arcs alone, and {supply} nothing: {_some(alone)}")
+        nodes[-1].notes.append(f"{count} {stand} in the table of arcs alone, and {supply} nothing: {some(alone)}")
 
 
-def _some(names: Sequence[str]) -> str:
-    """The first of some names, and how many more there are."""
-    return ", ".join(names[:5]) + (f" and {len(names) - 5} more" if len(names) > 5 else "")
+def _named(sheets: Sequence[Sheet]) -> str:
+    """What messages call the tables of nodes together."""
+    return " and ".join(dict.fromkeys(sheet.name for sheet in sheets))
 
 
-def _tell_unplaced(problem: Problem, nodes: Sheet) -> None:
+def _tell_unplaced(problem: Problem, nodes: Sequence[Sheet]) -> None:
     """Notes nodes without a place where others have one: no map is drawn then."""
     unplaced = [name for name in problem.nodes if name not in problem.places] if problem.places else []
     if unplaced:
         has = "has" if len(unplaced) == 1 else "have"
         count = counted(len(unplaced), "node")
-        nodes.notes.append(
-            f"{nodes.name}: {count} {has} no place (x and y), so the picture is no map: {_some(unplaced)}"
+        nodes[-1].notes.append(
+            f"{_named(nodes)}: {count} {has} no place (x and y), so the picture is no map: {some(unplaced)}"
         )
 
 
@@ -480,37 +525,37 @@ def _tell_twice(table: Table, arcs: Sequence[Arc], ends: Tuple[Sequence[str], Se
     table.sheet.notes.append(f"{table.sheet.name}: {place(row)} says the same as {place(first)}{more}, and both count")
 
 
-def _check_sense(problem: Problem, nodes: Optional[Table], arcs: Table, ends: Collection[str]) -> None:
+def _check_sense(problem: Problem, nodes: Sequence[Sheet], arcs: Sheet, ends: Collection[str]) -> None:
     """Raises TableFault where a cheapest plan is asked for and nothing has to flow since no supplies are there."""
     if problem.kind != "min" or any(problem.nodes.values()) or any(arc.low or arc.cost < 0 for arc in problem.arcs):
-        if problem.kind == "min" and nodes is not None:
-            _tell_lonely(problem, nodes, ends)
-            _tell_one_side(problem, nodes)
+        if problem.kind == "min" and nodes:
+            _tell_lonely(problem, _named(nodes), ends)
+            _tell_one_side(problem, _named(nodes))
         return
-    if nodes is None:
+    if not nodes:
         raise TableFault(
-            f"{arcs.sheet.name}: this is a table of arcs alone, and a cheapest plan wants supplies: give the table of "
+            f"{arcs.name}: this is a table of arcs alone, and a cheapest plan wants supplies: give the table of "
             "nodes before it (`--kind max` and `--kind asn` want none)"
         )
-    problem.notes.append(f"{nodes.sheet.name}: no node supplies or demands anything, so nothing has to flow")
+    problem.notes.append(f"{_named(nodes)}: no node supplies or demands anything, so nothing has to flow")
 
 
-def _tell_one_side(problem: Problem, nodes: Table) -> None:
+def _tell_one_side(problem: Problem, tables: str) -> None:
     """Notes that all nodes supply, or all demand."""
     for does, sign in (("demands", 1), ("supplies", -1)):
         if problem.balance == "equal" and all(supply * sign >= 0 for supply in problem.nodes.values()):
             if any(problem.nodes.values()):
-                problem.notes.append(f"{nodes.sheet.name}: no node {does} anything; a demand is a supply below 0")
+                problem.notes.append(f"{tables}: no node {does} anything; a demand is a supply below 0")
 
 
-def _tell_lonely(problem: Problem, nodes: Table, ends: Collection[str]) -> None:
+def _tell_lonely(problem: Problem, tables: str, ends: Collection[str]) -> None:
     """Notes nodes without an arc."""
     lonely = [name for name in problem.nodes if name not in ends]
     for has_supply, what in ((True, "a supply or a demand and no arc"), (False, "neither a supply nor an arc")):
         names = [name for name in lonely if bool(problem.nodes[name]) == has_supply]
         if names:
             count = "1 node has" if len(names) == 1 else f"{len(names)} nodes have"
-            problem.notes.append(f"{nodes.sheet.name}: {count} {what}: {_some(names)}")
+            problem.notes.append(f"{tables}: {count} {what}: {some(names)}")
 
 
 # ---------------------------------------------------------------- plans as tables
@@ -552,7 +597,7 @@ def check_kept(path: Union[str, Path], inputs: Sequence[str], *, is_problem: boo
         if sheet is None:
             what = "the text" if is_text else "a table"
             raise TableFault(f"{file.name}: this would take the place of {what} that is read; write to another file")
-        if sheet.casefold() in map(str.casefold, sheets_read(theirs, their_sheet)):
+        if sheet.casefold() in map(str.casefold, sheets_read(theirs, their_sheet, is_alone=len(inputs) == 1)):
             raise TableFault(
                 f"{file.name}: the sheet {sheet!r} is read, and this would take its place; take another name"
             )
