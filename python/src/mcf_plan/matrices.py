@@ -11,7 +11,7 @@ from .columns import SHORT, Match, folded, is_of_list, match_of, quoted, telling
 from .formats import counted, some
 from .reading import Reading
 from .sheets import Sheet
-from .vocabulary import AMOUNTS, CLOSED, EARNINGS, FIXED, HARMLESS, LOSSES, SCORES, SUMS
+from .vocabulary import AMOUNTS, CLOSED, EARNINGS, FIXED, HARMLESS, LOSSES, OF_PEOPLE, SCORES, SUMS
 
 NO_WAY = CLOSED | {"-", "--", "–", "—", "x", "×", "∞", "inf", "n/a"}
 """What a cell says of two nodes between which no arc leads; an empty one says so too."""
@@ -306,7 +306,7 @@ def _is_no_node(name: str, parts: _Parts) -> bool:
     words = set(bare.split())
     if words & NAMES_AS_WELL:
         return not words.isdisjoint(HARMLESS)
-    if match_of(name, ("cost", "capacity", "low", *_SIDES)) and bare not in SHORT:
+    if bare in OF_PEOPLE or match_of(name, ("cost", "capacity", "low", *_SIDES)) and bare not in SHORT:
         return True
     return parts.beside is not None and telling(bare, ("cost", "capacity", "low", *_SIDES)) is not None
 

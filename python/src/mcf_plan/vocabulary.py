@@ -205,6 +205,19 @@ WORDY = frozenset(
 )
 """Columns of which each cell is looked at, since it may say of its row what other columns have as headings."""
 
+OF_PEOPLE = frozenset(
+    (
+        "age wage wages salary pay seniority experience grade rank level phone id "
+        "alter lohn gehalt dienstjahre erfahrung stufe telefon "
+        "anciennete experience salaire niveau "
+        "edad salario sueldo antiguedad experiencia nivel telefono "
+        "eta stipendio salario anzianita esperienza livello "
+        "idade salario antiguidade experiencia nivel telefone "
+        "leeftijd loon salaris ervaring niveau telefoon "
+    ).split()
+)
+"""Columns that tell something of a person, and are no task or place beside others."""
+
 NO_SLIPS = frozenset("custom customs mass massive port portal ports producer producers score scores".split())
 """Words that are near those of columns in other languages, and are no slips of the pen."""
 
