@@ -278,7 +278,7 @@ def _check_names(sheet: Sheet, parts: _Parts, *, has_nodes: bool) -> None:
         if not has_nodes and _is_no_node(header, parts):
             raise TableFault(
                 f"{sheet.name}: the column {header!r} of the matrix looks like no node; `--columns aside={quoted(header)}` "
-                "leaves it aside"
+                "leaves it aside; if it is one, call it otherwise"
             )
     rows: Dict[str, int] = {}
     for row in parts.rows:

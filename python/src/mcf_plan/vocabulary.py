@@ -207,13 +207,13 @@ WORDY = frozenset(
 
 OF_PEOPLE = frozenset(
     (
-        "age wage wages salary pay seniority experience grade rank level phone id "
-        "alter lohn gehalt dienstjahre erfahrung stufe telefon "
+        "age wage wages salary pay seniority experience grade rank level id "
+        "alter lohn gehalt dienstjahre erfahrung stufe "
         "anciennete experience salaire niveau "
-        "edad salario sueldo antiguedad experiencia nivel telefono "
+        "edad salario sueldo antiguedad experiencia nivel "
         "eta stipendio salario anzianita esperienza livello "
-        "idade salario antiguidade experiencia nivel telefone "
-        "leeftijd loon salaris ervaring niveau telefoon "
+        "idade salario antiguidade experiencia nivel "
+        "leeftijd loon salaris ervaring niveau "
     ).split()
 )
 """Columns that tell something of a person, and are no task or place beside others."""
